@@ -1,0 +1,17 @@
+pub mod Lists
+pub mod Bytes
+pub mod Graph
+pub mod First
+pub mod Answers
+pub mod Table
+pub mod Updates
+pub mod Admission
+pub mod Merge
+pub mod Batches
+pub mod Layers
+pub mod Question
+pub mod Filter
+pub mod Small
+pub mod Calls
+pub mod Log
+pub mod Listing
