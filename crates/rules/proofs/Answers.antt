@@ -26,6 +26,12 @@ use Rattle.rules.proofs.Same.{batches-same}
 pub first-none : (cs : List (ℕ × Type 0)) (n : ℕ) → Apart n cs → First cs n → None cs
 first-none cs n a p = first-skips cs [] n a (rw append-nil p) .0
 
+pub says-yes : {P : Type 0} (b : Bool) → Says b P → b ≡ true → P
+says-yes {P} b h e = subst (λ x. Says x P) e h
+
+pub says-no : {P : Type 0} (b : Bool) → Says b P → b ≡ false → ¬ P
+says-no {P} b h e = subst (λ x. Says x P) e h
+
 pub says-unique : {P Q : Type 0} (b c : Bool) → (P → Q) → (Q → P) → Says b P → Says c Q → b ≡ c
 says-unique true true f g p q = refl
 says-unique true false f g p q = absurd (q (f p))

@@ -4,7 +4,7 @@ use Prim.Native.Nat.{ℕ, zero, suc, _+_, _*_, _^_, _≤_, _<_}
 use native.Mathlib.Omega.{arith}
 use native.Mathlib.Decide.{ℕ-discrete, decLt}
 use native.Mathlib.Numerals.{add-one}
-use native.Mathlib.Nat.{pow-suc}
+use native.Mathlib.Nat.{pow-suc, add-zero}
 use mathlib.Core.Path.{_≡_, refl, sym, _∙_, ap, subst}
 use mathlib.Core.List.{List, [], _∷_, _++_}
 use lib.ListN.{length, getD, length-append, List·getD-append}
@@ -100,3 +100,12 @@ number-below s p (suc k) a = rw pow-suc (omega (arith, number-below s p k a, a .
 -- bytes compare from the first: the first place where they differ decides
 pub number-order : (s t : List ℕ) (p q k j : ℕ) → Bytes s → Bytes t → j < k → ((i : ℕ) → i < j → getD s (p + i) 0 ≡ getD t (q + i) 0) → getD s (p + j) 0 < getD t (q + j) 0 → numberAt s p k < numberAt t q k
 number-order s t p q k j a b h e l = number-less s t p q (j + 1) k (a .small) (b .small) (omega arith) (omega (arith, number-same s t p q j e, number-step s p j, number-step t q j))
+
+-- k bytes and then j more
+pub number-append : (s : List ℕ) (p k j : ℕ) → numberAt s p (k + j) ≡ numberAt s p k * 256 ^ j + numberAt s (p + k) j
+unfolding numberAt
+number-append s p k zero = rw add-zero (omega arith)
+number-append s p k (suc j) =
+    let e : k + suc j ≡ suc (k + j) = omega arith in
+    let f : p + (k + j) ≡ p + k + j = omega arith in
+    rw (e, pow-suc) (omega (arith, number-append s p k j, ap (λ x. getD s x 0) f))

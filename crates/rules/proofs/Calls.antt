@@ -16,7 +16,6 @@ use Rattle.rules.specs.Graph.{Op, Held, Unheld, Child, Head, AllHeads}
 use Rattle.rules.specs.Lists.{Alike}
 use Rattle.rules.specs.Question.{listed, kind, SameBatch, questionRefusals}
 use Rattle.rules.specs.Small.{AllHeld, SingleHead, AddBefore, Added, HeldIn, storeRefusals, digestRefusals, heldRefusals, listRefusals, memberRefusals}
-use Rattle.rules.specs.Table.{Limits}
 use Rattle.rules.specs.Updates.{Nearest, Chainable}
 use Rattle.rules.proofs.Answers.{listed-same, answered-same, valued-unique, valued-same, parted-unique, parted-same, batches-answered-unique, batches-answered-same}
 use Rattle.rules.proofs.Depths.{depth-unique}
@@ -60,14 +59,14 @@ module _ {D D′ : Type 0} {G H : List Op} (w : Twins D D′ G H) where
   member-matched : (m d : List ℕ) → Matched (memberRefusals D m d) (memberRefusals D′ m d)
   member-matched m d = search (matching, w .damage)
 
-  list-matched : (L : Limits) (l : List ℕ) → Matched (listRefusals L D l) (listRefusals L D′ l)
-  list-matched L l = search (matching, w .damage) depth 9
+  list-matched : (most : ℕ) (l : List ℕ) → Matched (listRefusals most D l) (listRefusals most D′ l)
+  list-matched most l = search (matching, w .damage) depth 9
 
   held-matched : (d : List ℕ) → Matched (heldRefusals D G d) (heldRefusals D′ H d)
   held-matched d = search (matching, w .damage, w .same) depth 9
 
-  filter-matched : (L : Limits) (p q : List ℕ) → Matched (filterRefusals L D G p q) (filterRefusals L D′ H p q)
-  filter-matched L p q = search (matching, later, w .damage, w .same) depth 15
+  filter-matched : (most : ℕ) (p q : List ℕ) → Matched (filterRefusals most D G p q) (filterRefusals most D′ H p q)
+  filter-matched most p q = search (matching, later, w .damage, w .same) depth 15
     where
       later : ¬ D → ((¬ AllHeads G (digestsOf p)) × Unheld G (digestsOf q)) ↔ ((¬ AllHeads H (digestsOf p)) × Unheld H (digestsOf q))
       later n = later-iff (w .same n) (digestsOf p) (digestsOf q)
@@ -75,8 +74,8 @@ module _ {D D′ : Type 0} {G H : List Op} (w : Twins D D′ G H) where
   question-matched : (shape many : Type 0) (p : List ℕ) → Matched (questionRefusals shape many D G p) (questionRefusals shape many D′ H p)
   question-matched shape many p = search (matching, w .damage, w .same) depth 15
 
-  batches-matched : (L : Limits) (l : List ℕ) → Matched (batchesForHeadsRefusals L D G l) (batchesForHeadsRefusals L D′ H l)
-  batches-matched L l = search (matching, w .damage, w .same) depth 15
+  batches-matched : (most : ℕ) (l : List ℕ) → Matched (batchesForHeadsRefusals most D G l) (batchesForHeadsRefusals most D′ H l)
+  batches-matched most l = search (matching, w .damage, w .same) depth 15
 
 -- graphs with the same operations: the same outcome
 module _ {D D′ : Type 0} {G H : List Op} (w : Twins D D′ G H) where
@@ -86,8 +85,8 @@ module _ {D D′ : Type 0} {G H : List Op} (w : Twins D D′ G H) where
   pub heads-same : {s t : List ℕ} {n c : ℕ} → Heads D G s t n c → Heads D′ H s t n c
   heads-same = listed-same (omega arith) (store-matched w) (λ z. both Head (λ A B e d. head-same e) (z .0))
 
-  pub nearest-update-ancestors-same : (L : Limits) (l : List ℕ) {s t : List ℕ} {n c : ℕ} → NearestUpdateAncestors L D G l s t n c → NearestUpdateAncestors L D′ H l s t n c
-  nearest-update-ancestors-same L l = listed-same (omega arith) (list-matched w L l) (λ z. both (λ A. Nearest A (digestsOf l)) (λ A B e d. nearest-in (e .into)) (z .1 .1 .0))
+  pub nearest-update-ancestors-same : (most : ℕ) (l : List ℕ) {s t : List ℕ} {n c : ℕ} → NearestUpdateAncestors most D G l s t n c → NearestUpdateAncestors most D′ H l s t n c
+  nearest-update-ancestors-same most l = listed-same (omega arith) (list-matched w most l) (λ z. both (λ A. Nearest A (digestsOf l)) (λ A B e d. nearest-in (e .into)) (z .1 .1 .0))
 
   pub predecessors-for-same : (d : List ℕ) {s t : List ℕ} {n c : ℕ} → PredecessorsFor D G d s t n c → PredecessorsFor D′ H d s t n c
   predecessors-for-same d = listed-same (omega arith) (held-matched w d) (λ z. both (λ A p. Child A p (digestOf d)) (λ A B e p. child-in (e .into)) (z .1 .0))
@@ -95,8 +94,8 @@ module _ {D D′ : Type 0} {G H : List Op} (w : Twins D D′ G H) where
   pub children-of-same : (d : List ℕ) {s t : List ℕ} {n c : ℕ} → ChildrenOf D G d s t n c → ChildrenOf D′ H d s t n c
   children-of-same d = listed-same (omega arith) (digest-matched d (w .damage)) (λ z. both (λ A. Child A (digestOf d)) (λ A B e c. child-in (e .into)) (z .1 .0))
 
-  pub filter-in-causal-past-same : (L : Limits) (p q : List ℕ) {s t : List ℕ} {n c : ℕ} → FilterInCausalPast L D G p q s t n c → FilterInCausalPast L D′ H p q s t n c
-  filter-in-causal-past-same L p q = listed-same (omega arith) (filter-matched w L p q) (λ z. both (λ A. Observed A (digestsOf p) (digestsOf q)) (λ A B e d. observed-same e) (z .1 .1 .0))
+  pub filter-in-causal-past-same : (most : ℕ) (p q : List ℕ) {s t : List ℕ} {n c : ℕ} → FilterInCausalPast most D G p q s t n c → FilterInCausalPast most D′ H p q s t n c
+  filter-in-causal-past-same most p q = listed-same (omega arith) (filter-matched w most p q) (λ z. both (λ A. Observed A (digestsOf p) (digestsOf q)) (λ A B e d. observed-same e) (z .1 .1 .0))
 
   pub depth-of-same : (d : List ℕ) {n v : ℕ} → DepthOf D G d n v → DepthOf D′ H d n v
   depth-of-same d = valued-same (omega arith) (held-matched w d) (λ z x. depth-in (w .same (z .1 .0) .into))
@@ -107,8 +106,8 @@ module _ {D D′ : Type 0} {G H : List Op} (w : Twins D D′ G H) where
   pub contains-op-hash-same : (d : List ℕ) {n : ℕ} {b : Bool} → ContainsOpHash D G d n b → ContainsOpHash D′ H d n b
   contains-op-hash-same d = answered-same (omega arith) (digest-matched d (w .damage)) (λ z. yes-no (λ A. Held A (digestOf d)) (λ A B e. held-in (e .into)) (z .1 .0))
 
-  pub contains-all-same : (L : Limits) (l : List ℕ) {n : ℕ} {b : Bool} → ContainsAll L D G l n b → ContainsAll L D′ H l n b
-  contains-all-same L l = answered-same (omega arith) (list-matched w L l) (λ z. yes-no (λ A. AllHeld A (digestsOf l)) (λ A B e. all-held-in (e .into)) (z .1 .1 .0))
+  pub contains-all-same : (most : ℕ) (l : List ℕ) {n : ℕ} {b : Bool} → ContainsAll most D G l n b → ContainsAll most D′ H l n b
+  contains-all-same most l = answered-same (omega arith) (list-matched w most l) (λ z. yes-no (λ A. AllHeld A (digestsOf l)) (λ A B e. all-held-in (e .into)) (z .1 .1 .0))
 
   pub is-chainable-same : (d : List ℕ) {n : ℕ} {b : Bool} → IsChainable D G d n b → IsChainable D′ H d n b
   is-chainable-same d = answered-same (omega arith) (digest-matched d (w .damage)) (λ z. yes-no (λ A. Chainable A (digestOf d)) (λ A B e. chainable-same e) (z .1 .0))
@@ -119,14 +118,14 @@ module _ {D D′ : Type 0} {G H : List Op} (w : Twins D D′ G H) where
   pub has-add-before-same : (m d : List ℕ) {n : ℕ} {b : Bool} → HasAddBefore D G m d n b → HasAddBefore D′ H m d n b
   has-add-before-same m d = answered-same (omega arith) (member-matched w m d) (λ z. yes-no (λ A. AddBefore A (digestOf m) (digestOf d)) (λ A B e. add-before-in (e .into)) (z .1 .0))
 
-  pub batch-has-listed-same : (L : Limits) (p l : List ℕ) {n : ℕ} {b : Bool} → BatchHasListed L D G p l n b → BatchHasListed L D′ H p l n b
-  batch-has-listed-same L p l = answered-same (omega arith) (question-matched w _ _ p) (λ z. yes-no (λ A. SameBatch A (digestsOf p) (listed (digestsOf l))) (λ A B e. same-batch-same e) (z .1 .1 .0))
+  pub batch-has-listed-same : (most : ℕ) (p l : List ℕ) {n : ℕ} {b : Bool} → BatchHasListed most D G p l n b → BatchHasListed most D′ H p l n b
+  batch-has-listed-same most p l = answered-same (omega arith) (question-matched w _ _ p) (λ z. yes-no (λ A. SameBatch A (digestsOf p) (listed (digestsOf l))) (λ A B e. same-batch-same e) (z .1 .1 .0))
 
-  pub batch-has-kind-same : (L : Limits) (p : List ℕ) (k : ℕ) {n : ℕ} {b : Bool} → BatchHasKind L D G p k n b → BatchHasKind L D′ H p k n b
-  batch-has-kind-same L p k = answered-same (omega arith) (question-matched w _ _ p) (λ z. yes-no (λ A. SameBatch A (digestsOf p) (kind k)) (λ A B e. same-batch-same e) (z .1 .1 .0))
+  pub batch-has-kind-same : (most : ℕ) (p : List ℕ) (k : ℕ) {n : ℕ} {b : Bool} → BatchHasKind most D G p k n b → BatchHasKind most D′ H p k n b
+  batch-has-kind-same most p k = answered-same (omega arith) (question-matched w _ _ p) (λ z. yes-no (λ A. SameBatch A (digestsOf p) (kind k)) (λ A B e. same-batch-same e) (z .1 .1 .0))
 
-  pub batches-for-heads-same : (L : Limits) (l : List ℕ) {s t u v : List ℕ} {n o b : ℕ} → BatchesForHeads L D G l s t u v n o b → BatchesForHeads L D′ H l s t u v n o b
-  batches-for-heads-same L l = batches-answered-same (omega arith) (batches-matched w L l) (λ z. (w .same (z .1 .1 .0), alike-refl (digestsOf l)))
+  pub batches-for-heads-same : (most : ℕ) (l : List ℕ) {s t u v : List ℕ} {n o b : ℕ} → BatchesForHeads most D G l s t u v n o b → BatchesForHeads most D′ H l s t u v n o b
+  batches-for-heads-same most l = batches-answered-same (omega arith) (batches-matched w most l) (λ z. (w .same (z .1 .1 .0), alike-refl (digestsOf l)))
 
   pub all-batches-same : {s t u v : List ℕ} {n o b : ℕ} → AllBatches D G s t u v n o b → AllBatches D′ H s t u v n o b
   all-batches-same p =
@@ -153,8 +152,8 @@ module _ {D : Type 0} {G : List Op} (F : ¬ D → Formed G) where
   pub depth-of-unique : (d : List ℕ) {n m v w : ℕ} → DepthOf D G d n v → DepthOf D G d m w → (n ≡ m) × (v ≡ w)
   depth-of-unique d = valued-unique (omega arith) (λ z x y. depth-unique (F (z .1 .0)))
 
-  pub batches-for-heads-unique : (L : Limits) (l : List ℕ) {s t t′ u v v′ : List ℕ} {n n′ o o′ b b′ : ℕ} → Bytes t → Bytes t′ → BatchesForHeads L D G l s t u v n o b → BatchesForHeads L D G l s t′ u v′ n′ o′ b′ → (n ≡ n′) × (o ≡ o′) × (b ≡ b′) × (t ≡ t′) × (v ≡ v′)
-  batches-for-heads-unique L l = batches-answered-unique (omega arith) (λ z. F (z .1 .1 .0))
+  pub batches-for-heads-unique : (most : ℕ) (l : List ℕ) {s t t′ u v v′ : List ℕ} {n n′ o o′ b b′ : ℕ} → Bytes t → Bytes t′ → BatchesForHeads most D G l s t u v n o b → BatchesForHeads most D G l s t′ u v′ n′ o′ b′ → (n ≡ n′) × (o ≡ o′) × (b ≡ b′) × (t ≡ t′) × (v ≡ v′)
+  batches-for-heads-unique most l = batches-answered-unique (omega arith) (λ z. F (z .1 .1 .0))
 
   pub all-batches-unique : {s t t′ u v v′ : List ℕ} {n n′ o o′ b b′ : ℕ} → Bytes t → Bytes t′ → AllBatches D G s t u v n o b → AllBatches D G s t′ u v′ n′ o′ b′ → (n ≡ n′) × (o ≡ o′) × (b ≡ b′) × (t ≡ t′) × (v ≡ v′)
   all-batches-unique {s} {t} {t′} {u} {v} {v′} {n} {n′} {o} {o′} {b} {b′} x y p q = batches-answered-unique (omega arith) (λ z. F (z .0)) x y moved (q .answered)

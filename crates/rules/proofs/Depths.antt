@@ -9,6 +9,7 @@ use mathlib.Core.List.{List, [], _∷_, List·Memᴰ·head, List·Memᴰ·tail, 
 use lib.ListN.{length}
 use Rattle.rules.specs.Graph.{Op, Held, Depth, bottom, above}
 use Rattle.rules.specs.Lists.{_∈_}
+use Rattle.rules.specs.Merge.{has}
 use Rattle.rules.proofs.Formed.{noOp, opAt, Formed, one-op, by-preds}
 use Rattle.rules.proofs.Lists.{at-in, in-at}
 

@@ -89,15 +89,15 @@ grown-formed fresh = formed-none
 grown-formed (admit g a few room) = formed-more (grown-formed g) a
 
 -- within the limits
-pub record Fits (L : Limits) (G : List Op) : Type 0 where
+pub record InLimits (L : Limits) (G : List Op) : Type 0 where
   pub few : (i : ℕ) → i < length G → length (opAt G i .preds) ≤ L .predecessors
   pub room : length G ≤ L .operations
 
-pub grown-fits : {L : Limits} {G : List Op} → Grown L G → Fits L G
+pub grown-fits : {L : Limits} {G : List Op} → Grown L G → InLimits L G
 grown-fits fresh = record { few = λ i h. absurd (omega arith); room = omega arith }
 grown-fits {L} (admit {G = G} {o = o} g a few room) = record { few = λ i h. go i (grown-fits g) (split G o i h); room = omega (arith, size G o) }
   where
-    go : (i : ℕ) → Fits L G → (i < length G) ⊎ (i ≡ length G) → length (opAt (all G o) i .preds) ≤ L .predecessors
+    go : (i : ℕ) → InLimits L G → (i < length G) ⊎ (i ≡ length G) → length (opAt (all G o) i .preds) ≤ L .predecessors
     go i w (inl h) = rw (old G o i h) (w .few i h)
     go i w (inr h) = rw (new G o i h) few
 
@@ -120,9 +120,9 @@ module _ {G : List Op} (F : Formed G) where
         proper = F .proper i h;
       }
 
-  take-grown : {L : Limits} → Fits L G → (i : ℕ) → i ≤ length G → Grown L (take i G)
+  take-grown : {L : Limits} → InLimits L G → (i : ℕ) → i ≤ length G → Grown L (take i G)
   take-grown w zero h = fresh
   take-grown w (suc i) h = rw (take-suc G i noOp (omega arith)) (admit (take-grown w i (omega arith)) (next i (omega arith)) (w .few i (omega arith)) (omega (arith, length-take i G, w .room)))
 
-  pub formed-grown : {L : Limits} → Fits L G → Grown L G
+  pub formed-grown : {L : Limits} → InLimits L G → Grown L G
   formed-grown w = rw (take-length G) at (take-grown w (length G) (omega arith))

@@ -1,5 +1,6 @@
 pub mod Lists
 pub mod Bytes
+pub mod Insertion
 pub mod First
 pub mod Formed
 pub mod Growth

@@ -4,6 +4,7 @@ use Prim.Native.Nat.{_*_, _/_, _-_, _^_}
 use mathlib.Core.Path.{_≡_, refl}
 use mathlib.Core.List.{[]}
 use Rattle.rules.specs.Listing.{text, digits, hex, recordLine, opsLine, opLine}
+use Rattle.rules.specs.Log.{refused}
 
 record Printed : Type 0 where
   ops : opsLine 3 1 3 ≡ text "ops 3 heads 1 batches 3\n"

@@ -18,7 +18,7 @@ use Rattle.rules.specs.Graph.{Op, Held, Head, InPast, Depth}
 use Rattle.rules.specs.Lists.{_∈_, SetOf}
 use Rattle.rules.specs.Question.{listed, SameBatch, listedRefusals}
 use Rattle.rules.specs.Small.{AllHeld}
-use Rattle.rules.specs.Table.{limits}
+use Rattle.rules.specs.Table.{limits, mostListed}
 use Rattle.rules.specs.Updates.{Latest}
 use Rattle.rules.proofs.Admission.{new-admits, known-admits}
 use Rattle.rules.proofs.Decide.{and?, or?, not?, implies?, via?, fields2?, fields3?, fields4?, fields5?, nil?, each?, any?, all<?, ordered?, cases3?, mark?, set-of?, first?, held-here, unheld?, child?, head?, all-heads?, shaped?, proper?, some<?, formed?, digests-in, held-in-digests}
@@ -118,11 +118,11 @@ new? G d k m l o us F F′ = fields4? (λ x y z w. record { number = x; unheld =
 -- the filter's answer
 record Filters (G : List Op) (p q ds : List ℕ) : Type 0 where
   formed : Formed G
-  number : First (filterRefusals limits ⊥ G p q) 0
+  number : First (filterRefusals mostListed ⊥ G p q) 0
   answer : SetOf (Observed G (digestsOf p) (digestsOf q)) ds
 
-unfoldable filter-number? : (G : List Op) (p q : List ℕ) (n : ℕ) → Dec (First (filterRefusals limits ⊥ G p q) n)
-filter-number? G p q n = first? (filterRefusals limits ⊥ G p q) n (search deciding, (search deciding, (search deciding, (search deciding, (search deciding, tt)))))
+unfoldable filter-number? : (G : List Op) (p q : List ℕ) (n : ℕ) → Dec (First (filterRefusals mostListed ⊥ G p q) n)
+filter-number? G p q n = first? (filterRefusals mostListed ⊥ G p q) n (search deciding, (search deciding, (search deciding, (search deciding, (search deciding, tt)))))
 
 unfoldable filters? : (G : List Op) (p q ds : List ℕ) → Dec (Filters G p q ds)
 filters? G p q ds = go (formed? G)
@@ -136,10 +136,10 @@ filters? G p q ds = go (formed? G)
     go (no n) = no (λ s. n (s .formed))
 
 -- the batch question with a list
-unfoldable question-number? : (G : List Op) (p l : List ℕ) (n : ℕ) → Dec (First (listedRefusals limits ⊥ G p l) n)
-question-number? G p l n = first? (listedRefusals limits ⊥ G p l) n (search deciding, (search deciding, (search deciding, (search deciding, (search deciding, tt)))))
+unfoldable question-number? : (G : List Op) (p l : List ℕ) (n : ℕ) → Dec (First (listedRefusals mostListed ⊥ G p l) n)
+question-number? G p l n = first? (listedRefusals mostListed ⊥ G p l) n (search deciding, (search deciding, (search deciding, (search deciding, (search deciding, tt)))))
 
-answers : (G : List Op) (p l : List ℕ) (b : Bool) → First (listedRefusals limits ⊥ G p l) 0 → Says b (SameBatch G (digestsOf p) (listed (digestsOf l))) → BatchHasListed limits ⊥ G p l 0 b
+answers : (G : List Op) (p l : List ℕ) (b : Bool) → First (listedRefusals mostListed ⊥ G p l) 0 → Says b (SameBatch G (digestsOf p) (listed (digestsOf l))) → BatchHasListed mostListed ⊥ G p l 0 b
 answers G p l b f s = record { number = f; done = λ z. s; refused = λ n. absurd (n refl) }
 
 -- x is alone at its depth; x is comparable with every operation
@@ -198,15 +198,15 @@ record Starred : Type 0 where
   forks-for-three : BatchesOf K (all 3 ∷ []) (all 1 ∷ all 3 ∷ []) (1 ∷ 1 ∷ [])
   descends : AllBatchesOf five (all 2 ∷ []) (all 1 ∷ all 5 ∷ all 2 ∷ []) (1 ∷ 1 ∷ 1 ∷ [])
   two-starts : AllBatchesOf adds (all 1 ∷ all 2 ∷ []) (all 1 ∷ all 2 ∷ []) (1 ∷ 0 ∷ [])
-  has-two : BatchHasListed limits ⊥ adds (bytes 1) (bytes 2) 0 true
-  has-not-one : BatchHasListed limits ⊥ adds (bytes 1) (bytes 1) 0 false
-  has-four : BatchHasListed limits ⊥ bottleneck (bytes 3) (bytes 4) 0 true
-  has-not-two : BatchHasListed limits ⊥ bottleneck (bytes 3) (bytes 2) 0 false
+  has-two : BatchHasListed mostListed ⊥ adds (bytes 1) (bytes 2) 0 true
+  has-not-one : BatchHasListed mostListed ⊥ adds (bytes 1) (bytes 1) 0 false
+  has-four : BatchHasListed mostListed ⊥ bottleneck (bytes 3) (bytes 4) 0 true
+  has-not-two : BatchHasListed mostListed ⊥ bottleneck (bytes 3) (bytes 2) 0 false
   admits-three : Admitting two-ops (bytes 3) 2 (bytes 0) (bytes 2) three-ops false (all 2 ∷ [])
   admits-four : Admitting three-ops (bytes 4) 2 (bytes 0) (bytes 2) four-ops false []
   latest : SetOf (Latest four-ops) (all 3 ∷ all 4 ∷ [])
   filters-past : Filters K (bytes 3) (bytes 1 ++ bytes 2 ++ bytes 3) (all 1 ∷ all 3 ∷ [])
-  filter-lacks : First (filterRefusals limits ⊥ K (bytes 3) (bytes 1 ++ bytes 9)) 7
+  filter-lacks : First (filterRefusals mostListed ⊥ K (bytes 3) (bytes 1 ++ bytes 9)) 7
   filters-all : Filters K (bytes 2 ++ bytes 4) (bytes 9) (all 9 ∷ [])
   -- the errors that document 01 expects: a held digest comes before InvalidOperation; in 1, 2(1), 3(2), 4(3,1) the operation 2
   -- is alone at its depth and comparable with all, and is no boundary

@@ -10,7 +10,7 @@ use Rattle.rules.specs.Bytes.{digestsOf}
 use Rattle.rules.specs.Graph.{Op, Held, Unheld, Child, Head, Depth, InPast}
 use Rattle.rules.specs.First.{First}
 use Rattle.rules.specs.Answers.{Put, PutMarks}
-use Rattle.rules.specs.Table.{Limits, WholeDigests, Over}
+use Rattle.rules.specs.Table.{WholeDigests, Over}
 
 -- inside S from d to a child, and so on, to where S has no child; the list is what comes after d
 pub data Run (G : List Op) (S : ℕ → Type 0) : ℕ → List ℕ → Type 0 where
@@ -80,11 +80,11 @@ pub record BatchesAnswered (rs : List (ℕ × Type 0)) (G : List Op) (heads s t 
   pub put : Put ds s t
   pub put-marks : PutMarks marks u v
 
--- for a head list that is lent
-abbrev pub batchesForHeadsRefusals : Limits → Type 0 → List Op → List ℕ → List (ℕ × Type 0)
-batchesForHeadsRefusals L damaged G l =
+-- for a head list that is lent, of at most so many digests
+abbrev pub batchesForHeadsRefusals : ℕ → Type 0 → List Op → List ℕ → List (ℕ × Type 0)
+batchesForHeadsRefusals most damaged G l =
     (1, ¬ WholeDigests l)
-    ∷ (2, Over (L .listed) l)
+    ∷ (2, Over most l)
     ∷ (3, damaged)
     ∷ (8, digestsOf l ≡ [])
     ∷ (7, Unheld G (digestsOf l))

@@ -1,5 +1,5 @@
 -- The public calls that only read stores, each as its answer. `damaged` says that a store isn't sound; G are a sound one's operations.
--- n is the number returned, c a count, b yes or no; an output is s before and t after.
+-- A lent list has at most `most` digests. n is the number returned, c a count, b yes or no; an output is s before and t after.
 -- Assumes nothing.
 use Prim.Native.Nat.{ℕ}
 use mathlib.Core.Bool.{Bool}
@@ -9,7 +9,6 @@ use Rattle.rules.specs.Lists.{SetOf}
 use Rattle.rules.specs.Bytes.{digestOf, digestsOf}
 use Rattle.rules.specs.Graph.{Op, Held, Child, Head, Depth}
 use Rattle.rules.specs.Answers.{Listed, Answered, Valued, Parted}
-use Rattle.rules.specs.Table.{Limits}
 use Rattle.rules.specs.Updates.{Nearest, Chainable}
 use Rattle.rules.specs.Batches.{BatchesAnswered, batchesForHeadsRefusals, batchesRefusals}
 use Rattle.rules.specs.Question.{Question, listed, kind, SameBatch, listedRefusals, kindRefusals}
@@ -20,8 +19,8 @@ use Rattle.rules.specs.Small.{AllHeld, SingleHead, AddBefore, Added, Hel
 abbrev pub Heads : Type 0 → List Op → List ℕ → List ℕ → ℕ → ℕ → Type 0
 Heads damaged G s t n c = Listed (storeRefusals damaged) (Head G) s t n c
 
-abbrev pub NearestUpdateAncestors : Limits → Type 0 → List Op → List ℕ → List ℕ → List ℕ → ℕ → ℕ → Type 0
-NearestUpdateAncestors L damaged G l s t n c = Listed (listRefusals L damaged l) (Nearest G (digestsOf l)) s t n c
+abbrev pub NearestUpdateAncestors : ℕ → Type 0 → List Op → List ℕ → List ℕ → List ℕ → ℕ → ℕ → Type 0
+NearestUpdateAncestors most damaged G l s t n c = Listed (listRefusals most damaged l) (Nearest G (digestsOf l)) s t n c
 
 abbrev pub PredecessorsFor : Type 0 → List Op → List ℕ → List ℕ → List ℕ → ℕ → ℕ → Type 0
 PredecessorsFor damaged G d s t n c = Listed (heldRefusals damaged G d) (λ p. Child G p (digestOf d)) s t n c
@@ -29,8 +28,8 @@ PredecessorsFor damaged G d s t n c = Listed (heldRefusals damaged G d) (λ p. C
 abbrev pub ChildrenOf : Type 0 → List Op → List ℕ → List ℕ → List ℕ → ℕ → ℕ → Type 0
 ChildrenOf damaged G d s t n c = Listed (digestRefusals damaged d) (Child G (digestOf d)) s t n c
 
-abbrev pub FilterInCausalPast : Limits → Type 0 → List Op → List ℕ → List ℕ → List ℕ → List ℕ → ℕ → ℕ → Type 0
-FilterInCausalPast L damaged G p q s t n c = Listed (filterRefusals L damaged G p q) (Observed G (digestsOf p) (digestsOf q)) s t n c
+abbrev pub FilterInCausalPast : ℕ → Type 0 → List Op → List ℕ → List ℕ → List ℕ → List ℕ → ℕ → ℕ → Type 0
+FilterInCausalPast most damaged G p q s t n c = Listed (filterRefusals most damaged G p q) (Observed G (digestsOf p) (digestsOf q)) s t n c
 
 -- a number
 abbrev pub DepthOf : Type 0 → List Op → List ℕ → ℕ → ℕ → Type 0
@@ -40,8 +39,8 @@ DepthOf damaged G d n v = Valued (heldRefusals damaged G d) (Depth G (digestOf d
 abbrev pub ContainsOpHash : Type 0 → List Op → List ℕ → ℕ → Bool → Type 0
 ContainsOpHash damaged G d n b = Answered (digestRefusals damaged d) (Held G (digestOf d)) n b
 
-abbrev pub ContainsAll : Limits → Type 0 → List Op → List ℕ → ℕ → Bool → Type 0
-ContainsAll L damaged G l n b = Answered (listRefusals L damaged l) (AllHeld G (digestsOf l)) n b
+abbrev pub ContainsAll : ℕ → Type 0 → List Op → List ℕ → ℕ → Bool → Type 0
+ContainsAll most damaged G l n b = Answered (listRefusals most damaged l) (AllHeld G (digestsOf l)) n b
 
 abbrev pub IsChainable : Type 0 → List Op → List ℕ → ℕ → Bool → Type 0
 IsChainable damaged G d n b = Answered (digestRefusals damaged d) (Chainable G (digestOf d)) n b
@@ -52,15 +51,15 @@ HasSingleHead damaged G n b = Answered (storeRefusals damaged) (SingleHead G) n 
 abbrev pub HasAddBefore : Type 0 → List Op → List ℕ → List ℕ → ℕ → Bool → Type 0
 HasAddBefore damaged G m d n b = Answered (memberRefusals damaged m d) (AddBefore G (digestOf m) (digestOf d)) n b
 
-abbrev pub BatchHasListed : Limits → Type 0 → List Op → List ℕ → List ℕ → ℕ → Bool → Type 0
-BatchHasListed L damaged G p l n b = Answered (listedRefusals L damaged G p l) (SameBatch G (digestsOf p) (listed (digestsOf l))) n b
+abbrev pub BatchHasListed : ℕ → Type 0 → List Op → List ℕ → List ℕ → ℕ → Bool → Type 0
+BatchHasListed most damaged G p l n b = Answered (listedRefusals most damaged G p l) (SameBatch G (digestsOf p) (listed (digestsOf l))) n b
 
-abbrev pub BatchHasKind : Limits → Type 0 → List Op → List ℕ → ℕ → ℕ → Bool → Type 0
-BatchHasKind L damaged G p k n b = Answered (kindRefusals L damaged G p k) (SameBatch G (digestsOf p) (kind k)) n b
+abbrev pub BatchHasKind : ℕ → Type 0 → List Op → List ℕ → ℕ → ℕ → Bool → Type 0
+BatchHasKind most damaged G p k n b = Answered (kindRefusals most damaged G p k) (SameBatch G (digestsOf p) (kind k)) n b
 
 -- batches: outputs s to t for the digests and u to v for the marks, the counts of operations and of batches
-abbrev pub BatchesForHeads : Limits → Type 0 → List Op → List ℕ → List ℕ → List ℕ → List ℕ → List ℕ → ℕ → ℕ → ℕ → Type 0
-BatchesForHeads L damaged G l s t u v n ops batches = BatchesAnswered (batchesForHeadsRefusals L damaged G l) G (digestsOf l) s t u v n ops batches
+abbrev pub BatchesForHeads : ℕ → Type 0 → List Op → List ℕ → List ℕ → List ℕ → List ℕ → List ℕ → ℕ → ℕ → ℕ → Type 0
+BatchesForHeads most damaged G l s t u v n ops batches = BatchesAnswered (batchesForHeadsRefusals most damaged G l) G (digestsOf l) s t u v n ops batches
 
 pub record AllBatches (damaged : Type 0) (G : List Op) (s t u v : List ℕ) (n ops batches : ℕ) : Type 0 where
   pub heads : List ℕ

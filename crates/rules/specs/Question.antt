@@ -8,7 +8,7 @@ use Rattle.rules.specs.Lists.{_∈_}
 use Rattle.rules.specs.Bytes.{digestsOf}
 use Rattle.rules.specs.Graph.{Op, Held, Unheld, Child, Head, AllHeads}
 use Rattle.rules.specs.Batches.{Sooner}
-use Rattle.rules.specs.Table.{Limits, WholeDigests, Over}
+use Rattle.rules.specs.Table.{WholeDigests, Over}
 
 -- a question is one of the listed digests, or a kind
 pub data Question : Type 0 where
@@ -48,9 +48,9 @@ abbrev pub questionRefusals : Type 0 → Type 0 → Type 0 → List Op → List 
 questionRefusals shape many damaged G p = (1, shape) ∷ (2, many) ∷ (3, damaged) ∷ (4, digestsOf p ≡ []) ∷ (7, Unheld G (digestsOf p)) ∷ []
 
 -- a question with the list l
-abbrev pub listedRefusals : Limits → Type 0 → List Op → List ℕ → List ℕ → List (ℕ × Type 0)
-listedRefusals L damaged G p l = questionRefusals ((¬ WholeDigests p) ⊎ (¬ WholeDigests l)) (Over (L .listed) p ⊎ Over (L .listed) l) damaged G p
+abbrev pub listedRefusals : ℕ → Type 0 → List Op → List ℕ → List ℕ → List (ℕ × Type 0)
+listedRefusals most damaged G p l = questionRefusals ((¬ WholeDigests p) ⊎ (¬ WholeDigests l)) (Over most p ⊎ Over most l) damaged G p
 
 -- a question with the kind k
-abbrev pub kindRefusals : Limits → Type 0 → List Op → List ℕ → ℕ → List (ℕ × Type 0)
-kindRefusals L damaged G p k = questionRefusals ((¬ WholeDigests p) ⊎ (2 < k)) (Over (L .listed) p) damaged G p
+abbrev pub kindRefusals : ℕ → Type 0 → List Op → List ℕ → ℕ → List (ℕ × Type 0)
+kindRefusals most damaged G p k = questionRefusals ((¬ WholeDigests p) ⊎ (2 < k)) (Over most p) damaged G p

@@ -7,7 +7,7 @@ use mathlib.Core.List.{List, [], _∷_}
 use Rattle.rules.specs.Lists.{_∈_}
 use Rattle.rules.specs.Bytes.{digestOf, digestsOf}
 use Rattle.rules.specs.Graph.{Op, Held, Head, InPast}
-use Rattle.rules.specs.Table.{Limits, OneDigest, WholeDigests, Over}
+use Rattle.rules.specs.Table.{OneDigest, WholeDigests, Over}
 
 -- all of the list are held; so of the empty list
 pub record AllHeld (G : List Op) (ds : List ℕ) : Type 0 where
@@ -50,8 +50,8 @@ abbrev pub heldRefusals : Type 0 → List Op → List ℕ → List (ℕ × Type 
 heldRefusals damaged G d = (1, ¬ OneDigest d) ∷ (3, damaged) ∷ (7, ¬ Held G (digestOf d)) ∷ []
 
 -- a list: nearest updates, all held
-abbrev pub listRefusals : Limits → Type 0 → List ℕ → List (ℕ × Type 0)
-listRefusals L damaged l = (1, ¬ WholeDigests l) ∷ (2, Over (L .listed) l) ∷ (3, damaged) ∷ []
+abbrev pub listRefusals : ℕ → Type 0 → List ℕ → List (ℕ × Type 0)
+listRefusals most damaged l = (1, ¬ WholeDigests l) ∷ (2, Over most l) ∷ (3, damaged) ∷ []
 
 -- a member and a digest: add of a member at or before an operation
 abbrev pub memberRefusals : Type 0 → List ℕ → List ℕ → List (ℕ × Type 0)

@@ -6,15 +6,18 @@ use mathlib.Core.List.{List}
 use lib.ListN.{length}
 use Rattle.rules.specs.Bytes.{digestOf}
 
--- what a store and a question take at most
+-- what a store takes at most
 pub record Limits : Type 0 where
   pub operations : ℕ
   pub predecessors : ℕ
-  pub listed : ℕ
 
--- up to 512 operations of up to 16 predecessors; up to 512 digests in a question's list
+-- up to 512 operations of up to 16 predecessors
 abbrev pub limits : Limits
-limits = record { operations = 512; predecessors = 16; listed = 512 }
+limits = record { operations = 512; predecessors = 16 }
+
+-- up to 512 digests in a question's list
+abbrev pub mostListed : ℕ
+mostListed = 512
 
 -- a digest or a member, and no Shape (1)
 abbrev pub OneDigest : List ℕ → Type 0
