@@ -5,11 +5,13 @@ use native.Mathlib.Omega.{arith}
 use native.Mathlib.Decide.{ℕ-discrete, decLt}
 use native.Mathlib.Nat.{zero-add}
 use mathlib.Core.Path.{_≡_, refl, sym, _∙_, ap, subst}
-use mathlib.Core.Bool.{Bool, true, false}
+use mathlib.Core.Bool.{Bool, true, false, not}
 use mathlib.Core.Logic.{_⊎_, inl, inr, _↔_}
 use mathlib.Core.List.{List, [], _∷_, _++_, append-nil}
 use lib.ListN.{length, getD}
 use lib.Seq.{ext-getD}
+use lib.Dec.{eqb}
+use borrow.Author.Tests.{eq-eqb, ne-eqb}
 use Rattle.rules.specs.Answers.{Says, Put, PutMarks, NoRoom, Listed, Answered, Valued, Parted}
 use Rattle.rules.specs.Batches.{batchCount, NoBatchRoom, BatchesAnswered}
 use Rattle.rules.specs.Bytes.{Bytes, numberAt, digestOf}
@@ -31,6 +33,17 @@ says-yes {P} b h e = subst (λ x. Says x P) e h
 
 pub says-no : {P : Type 0} (b : Bool) → Says b P → b ≡ false → ¬ P
 says-no {P} b h e = subst (λ x. Says x P) e h
+
+pub says-not : (P : Type 0) (b : Bool) → Says b P → Says (not b) (¬ P)
+says-not P true p = λ n. n p
+says-not P false n = n
+
+pub says-equal : (a b : ℕ) → Says (eqb a b) (a ≡ b)
+says-equal a b = go (ℕ-discrete a b)
+  where
+    go : Dec (a ≡ b) → Says (eqb a b) (a ≡ b)
+    go (yes e) = rw (eq-eqb a b e) e
+    go (no n) = rw (ne-eqb a b n) n
 
 pub says-unique : {P Q : Type 0} (b c : Bool) → (P → Q) → (Q → P) → Says b P → Says c Q → b ≡ c
 says-unique true true f g p q = refl

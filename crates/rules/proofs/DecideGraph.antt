@@ -13,12 +13,12 @@ use Rattle.rules.specs.Graph.{Op, Held, Child, InPast, Depth, bottom, ab
 use Rattle.rules.specs.Layers.{Layer}
 use Rattle.rules.specs.Lists.{_∈_}
 use Rattle.rules.specs.Question.{Question, listed, kind, Matches, Waist, FirstWaist, SameBatch}
-use Rattle.rules.specs.Updates.{Met, from-list, behind, Update, Nearest, Latest}
+use Rattle.rules.specs.Updates.{Met, Update, Nearest, Latest}
 use Rattle.rules.proofs.Decide.{and?, or?, not?, implies?, via?, fields2?, fields3?, fields4?, fields5?, each?, any?, all<?, ordered?, cases3?, mark?, child?, head?, all-heads?}
 use Rattle.rules.proofs.Depths.{depth-of, depth-unique}
 use Rattle.rules.proofs.Formed.{Formed, one-op}
 use Rattle.rules.proofs.Lists.{_∈?_}
-use Rattle.rules.proofs.Past.{held?, Reach, starts, steps, reach?, past-held, past?, layer-boundary, boundary-layer}
+use Rattle.rules.proofs.Past.{held?, reach?, Other, reach-met, met-reach, past-held, past?, layer-boundary, boundary-layer}
 
 pub depth-held : {G : List Op} {d k : ℕ} → Depth G d k → Held G d
 depth-held (bottom h e) = h
@@ -94,15 +94,7 @@ module _ {G : List Op} (F : Formed G) where
 
   -- updates
   unfoldable pub met? : (ls : List ℕ) (d : ℕ) → Dec (Met G ls d)
-  met? ls d = via? reach-met met-reach (reach? F (λ o. ¬ (o .kind ≡ 2)) (λ o. not? (ℕ-discrete (o .kind) 2)) ls d)
-    where
-      reach-met : {d : ℕ} → Reach G (λ o. ¬ (o .kind ≡ 2)) ls d → Met G ls d
-      reach-met (starts m) = from-list m
-      reach-met (steps o m k l r) = behind (reach-met r) (record { op = o; stands = m; named = refl }) k l
-
-      met-reach : {d : ℕ} → Met G ls d → Reach G (λ o. ¬ (o .kind ≡ 2)) ls d
-      met-reach (from-list m) = starts m
-      met-reach (behind r h n m) = steps (h .op) (h .stands) n m (subst (Reach G (λ o. ¬ (o .kind ≡ 2)) ls) (sym (h .named)) (met-reach r))
+  met? ls d = via? reach-met met-reach (reach? F Other (λ o. not? (ℕ-discrete (o .kind) 2)) ls d)
 
   unfoldable pub update? : (u : ℕ) → Dec (Update G u)
   update? u = go (held? G u)

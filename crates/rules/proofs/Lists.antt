@@ -167,6 +167,27 @@ insert x (y ∷ ys) s = go (insert x ys (ordered-tail s)) (decLt x y) (ℕ-discr
     go r (no h) (yes e) = (y ∷ ys, s, record { into = λ z m. List·Memᴰ·tail m; back = λ z m. elim (List·Memᴰ·cases-cons m) [ inl q ↦ List·Memᴰ·head (q ∙ e) | inr t ↦ t ] })
     go r (no h) (no n) = (y ∷ r .0, more (λ z m. above h n z (List·Memᴰ·cases-cons (r .2 .into z m))) (r .1), record { into = λ z m. into (r .0) (r .2) z (List·Memᴰ·cases-cons m); back = λ z m. back (r .0) (r .2) z (List·Memᴰ·cases-cons m) })
 
+-- a set with one more member
+pub set-more : {P : ℕ → Type 0} {ds : List ℕ} (d : ℕ) → SetOf P ds → ¬ P d → (es : List ℕ) × SetOf (λ x. P x ⊎ (x ≡ d)) es × (length es ≡ length ds + 1)
+set-more {P} {ds} d S n = go (insert d ds (S .ascending))
+  where
+    new : (y : ℕ) → y ∈ ds → ¬ (d ≡ y)
+    new y m e = n (subst P (sym e) (S .into y m))
+
+    into : (x : ℕ) → (x ≡ d) ⊎ (x ∈ ds) → P x ⊎ (x ≡ d)
+    into x (inl e) = inr e
+    into x (inr m) = inl (S .into x m)
+
+    back : (x : ℕ) → P x ⊎ (x ≡ d) → x ∈ d ∷ ds
+    back x (inl p) = List·Memᴰ·tail (S .back x p)
+    back x (inr e) = List·Memᴰ·head e
+
+    go : (es : List ℕ) × Ascending es × Alike es (d ∷ ds) → (es : List ℕ) × SetOf (λ x. P x ⊎ (x ≡ d)) es × (length es ≡ length ds + 1)
+    go r =
+        let a : length (r .0) ≤ length (d ∷ ds) = sub-length (r .0) (d ∷ ds) (ascending-apart (r .1)) (r .2 .into) in
+        let b : length (d ∷ ds) ≤ length (r .0) = sub-length (d ∷ ds) (r .0) (more new (ascending-apart (S .ascending))) (r .2 .back) in
+        (r .0, record { ascending = r .1; into = λ x m. into x (List·Memᴰ·cases-cons (r .2 .into x m)); back = λ x p. r .2 .back x (back x p) }, omega (arith, a, b))
+
 -- a decidable set all of whose members stand in a list can be listed
 pub set-is : (P : ℕ → Type 0) → ((x : ℕ) → Dec (P x)) → (xs : List ℕ) → ((x : ℕ) → P x → x ∈ xs) → (ds : List ℕ) × SetOf P ds
 set-is P d xs b = let r = pick xs in (r .0, record { ascending = r .1; into = λ x m. r .2 x .0 m .0; back = λ x p. r .2 x .1 (p, b x p) })

@@ -9,6 +9,7 @@ use Rattle.rules.specs.Batches.{Boundary}
 use Rattle.rules.specs.Graph.{Op, Held, Child, Ancestor, near, far, InPast, itself, before, Depth}
 use Rattle.rules.specs.Layers.{Layer}
 use Rattle.rules.specs.Lists.{_∈_}
+use Rattle.rules.specs.Updates.{Met, from-list, behind}
 use Rattle.rules.proofs.Formed.{Formed, closed, by-children}
 use Rattle.rules.proofs.Heads.{below}
 use Rattle.rules.proofs.Layers.{layer-through, through-layer}
@@ -86,6 +87,18 @@ past-walk (far c s) r = past-walk s (past-step c r)
 pub past-reach : {G : List Op} {hs : List ℕ} {d : ℕ} → InPast G hs d → Reach G Any hs d
 past-reach (itself m) = starts m
 past-reach (before m a) = past-walk a (starts m)
+
+-- no update passes
+abbrev pub Other : Op → Type 0
+Other o = ¬ (o .kind ≡ 2)
+
+unfoldable pub reach-met : {G : List Op} {ls : List ℕ} {d : ℕ} → Reach G Other ls d → Met G ls d
+reach-met (starts m) = from-list m
+reach-met (steps o m k l r) = behind (reach-met r) (record { op = o; stands = m; named = refl }) k l
+
+pub met-reach : {G : List Op} {ls : List ℕ} {d : ℕ} → Met G ls d → Reach G Other ls d
+met-reach (from-list m) = starts m
+met-reach {G} {ls} (behind r h n m) = steps (h .op) (h .stands) n m (subst (Reach G Other ls) (sym (h .named)) (met-reach r))
 
 -- what an ancestor is listed by
 unfoldable pub first-step : {G : List Op} {a d : ℕ} → Ancestor G a d → (c : ℕ) × Child G a c

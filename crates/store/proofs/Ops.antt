@@ -27,7 +27,7 @@ pub ops-at : (s : List ℕ) (i : ℕ) → i < countOf s → opAt (opsOf s) i ≡
 unfolding opsOf
 ops-at s i h = row-at noOp (countOf s) (opOf s) i h
 
-no-preds : (s : List ℕ) (i : ℕ) → predsAt s i ≡ 0 → opOf s i .preds ≡ []
+pub no-preds : (s : List ℕ) (i : ℕ) → predsAt s i ≡ 0 → opOf s i .preds ≡ []
 unfolding row
 no-preds s i e = ap (λ c. row c (λ k. digestAt s (predAt s i k))) e
 
