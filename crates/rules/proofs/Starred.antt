@@ -15,6 +15,7 @@ use Rattle.rules.specs.Calls.{BatchHasListed}
 use Rattle.rules.specs.Filter.{Observed, unchecked, observed, filterRefusals}
 use Rattle.rules.specs.First.{First}
 use Rattle.rules.specs.Graph.{Op, Held, Head, InPast, Depth}
+use Rattle.rules.specs.Layers.{Layer}
 use Rattle.rules.specs.Lists.{_∈_, SetOf}
 use Rattle.rules.specs.Question.{listed, SameBatch, listedRefusals}
 use Rattle.rules.specs.Small.{AllHeld}
@@ -214,6 +215,8 @@ record Starred : Type 0 where
   alone : Alone four (all 2)
   comparable : Comparable four (all 2)
   shut-out : ¬ Boundary four (all 4 ∷ []) (all 2)
+  -- the Rust's layer test finds 3 in 1, 2(1), 3(1,2)
+  layer : Layer three (InPast three (all 3 ∷ [])) (all 3) 2
 
 starred : Starred
 unfolding batches-of? all-batches-of? digests-in held-set? set-of? first? fields2? fields3? fields4? fields5? cases3? via? and? or? not? implies? nil? each? any? all<? some<? ordered? mark? formed? proper? held? head? child? some? _∈?_ ℕ-discrete decLe decLt in-at at-in closed below up by-children down by-preds greatest depth-of reach-step reach? reach-past past-under past-held past? first-step depth? each-depth? sooner? each-inside? inside? child-inside? layer? boundary? begins? batches? from-yes First never? new? filters? filter-number? admission-number? offered? question-number? each-held? alone? comparable? held-here unheld? all-heads? shaped? each-sooner? each-later? no-child? waist? first-waist? matches? same-batch? met? update? nearest? latest? observed? made? row numberAt
@@ -242,6 +245,7 @@ starred =
       alone = from-yes (alone? F4 (all 2)) tt;
       comparable = from-yes (comparable? F4 (all 2)) tt;
       shut-out = from-yes (not? (boundary? F4 (all 4 ∷ []) H4 (all 2))) tt;
+      layer = from-yes (layer? F3 (InPast three (all 3 ∷ [])) (past? F3 (all 3 ∷ [])) (past-held F3 (all 3 ∷ []) H3) (all 3) 2) tt;
     }
   where
     F3 : Formed three
