@@ -1,13 +1,11 @@
 -- The cursor over a list of digests, and lists in ascending order.
 -- Assumes nothing.
-use Prim.Native.Nat.{ℕ, _+_, _*_, _≤_, _<_}
+use Prim.Native.Nat.{ℕ, _+_, _-_, _*_, _≤_, _<_}
 use mathlib.Core.Path.{_≡_}
-use mathlib.Core.Logic.{_⊎_}
 use mathlib.Core.List.{List}
-use lib.ListN.{length}
+use lib.ListN.{length, getD}
 use lib.Dec.{leb}
-use Rattle.rules.specs.Lists.{_∈_}
-use Rattle.rules.specs.Bytes.{numberAt, digestsOf}
+use Rattle.rules.specs.Bytes.{numberAt}
 use Rattle.rules.specs.Log.{choose}
 use Rattle.digest.specs.declared.Cursor.{Cursor}
 use Rattle.digest.specs.declared.Next.{Next}
@@ -31,16 +29,19 @@ pub record Among (s : List ℕ) (n x : ℕ) : Type 0 where
   pub within : place < n
   pub there : nth s place ≡ x
 
--- t has the first n digests of s and x among them, in one more place, and rises if s does
+-- t has the first n digests of s and x among them: those up to x below its slot, the others one place further, all else as in s
 pub record Inserted (s t : List ℕ) (n x : ℕ) : Type 0 where
   pub size : length t ≡ length s
-  pub rising : Rising s n → Rising t (n + 1)
-  pub into : (y : ℕ) → Among t (n + 1) y → Among s n y ⊎ (y ≡ x)
-  pub back : (y : ℕ) → Among s n y ⊎ (y ≡ x) → Among t (n + 1) y
+  pub slot : ℕ
+  pub within : slot ≤ n
+  pub low : (k : ℕ) → k < slot → nth t k ≡ nth s k
+  pub here : nth t slot ≡ x
+  pub high : (k : ℕ) → slot < k → k ≤ n → nth t k ≡ nth s (k - 1)
+  pub under : (k : ℕ) → k < slot → nth s k ≤ x
+  pub over : (k : ℕ) → slot ≤ k → k < n → x < nth s k
+  pub rest : (j : ℕ) → 32 * (n + 1) ≤ j → getD t j 0 ≡ getD s j 0
 
--- the first n digests of t are those of the list l, ascending
-pub record Ordered (t l : List ℕ) (n : ℕ) : Type 0 where
-  pub fits : 32 * n ≤ length t
-  pub rising : Rising t n
-  pub into : (x : ℕ) → Among t n x → x ∈ digestsOf l
-  pub back : (x : ℕ) → x ∈ digestsOf l → Among t n x
+-- the first n digests of the list l are inserted into s, one after the other
+pub data Ordered (s l : List ℕ) : List ℕ → ℕ → Type 0 where
+  none : Ordered s l s 0
+  more : {t u : List ℕ} {n : ℕ} → Ordered s l t n → Inserted t u n (nth l n) → Ordered s l u (n + 1)

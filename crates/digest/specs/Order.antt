@@ -6,7 +6,7 @@ use Rattle.digest.specs.declared.Order.{Order}
 use Rattle.digest.specs.declared.Order.the-variants.{Less, Equal, Greater}
 
 -- how x stands to y
-abbrev pub Told : Order → ℕ → ℕ → Type 0
-Told Less x y = x < y
-Told Equal x y = x ≡ y
-Told Greater x y = y < x
+abbrev pub Stands : Order → ℕ → ℕ → Type 0
+Stands Less x y = x < y
+Stands Equal x y = x ≡ y
+Stands Greater x y = y < x

@@ -9,7 +9,7 @@ use mathlib.Core.List.{List}
 use lib.ListN.{length, getD, set}
 use Rattle.store.specs.Layout.{countOf, kindAt, predAt}
 use Rattle.walk.specs.Marks.{Ready, Paint, hit, miss, Painted}
-use Rattle.walk.specs.Passes.{Picked, Among, Lists, Listed, Reached, start, step, Plain, Deepest}
+use Rattle.walk.specs.Passes.{Picked, Names, Lists, Listed, Reached, start, step, Plain, Deepest}
 use Rattle.walk.specs.declared.Pick.{Pick}
 use Rattle.walk.proofs.Painting.{painted-as, painted-two, painted-one, ready-early}
 
@@ -29,18 +29,18 @@ filled-more {m} {m′} {i} {v} h w = painted-as into back (painted-two w (painte
     back j l = pick j l (ℕ-discrete j i)
 
 -- the places in the first c slots
-pub among-more : (s : List ℕ) {m m′ : List ℕ} (i c : ℕ) {v : ℕ} → predAt s i c < length m′ → Painted (Among s i c) v m m′ → Painted (Among s i (c + 1)) v m (set m′ (predAt s i c) v)
-among-more s {m} {m′} i c {v} h w = painted-as into back (painted-two w (painted-one m′ (predAt s i c) v h))
+pub names-more : (s : List ℕ) {m m′ : List ℕ} (i c : ℕ) {v : ℕ} → predAt s i c < length m′ → Painted (Names s i c) v m m′ → Painted (Names s i (c + 1)) v m (set m′ (predAt s i c) v)
+names-more s {m} {m′} i c {v} h w = painted-as into back (painted-two w (painted-one m′ (predAt s i c) v h))
   where
-    into : (j : ℕ) → Among s i c j ⊎ (j ≡ predAt s i c) → Among s i (c + 1) j
+    into : (j : ℕ) → Names s i c j ⊎ (j ≡ predAt s i c) → Names s i (c + 1) j
     into j (inl a) = record { nth = a .nth; below = omega (arith, a .below); there = a .there }
     into j (inr e) = record { nth = c; below = omega arith; there = sym e }
 
-    pick : (j : ℕ) (a : Among s i (c + 1) j) → Dec (a .nth ≡ c) → Among s i c j ⊎ (j ≡ predAt s i c)
+    pick : (j : ℕ) (a : Names s i (c + 1) j) → Dec (a .nth ≡ c) → Names s i c j ⊎ (j ≡ predAt s i c)
     pick j a (yes e) = inr (sym (a .there) ∙ ap (predAt s i) e)
     pick j a (no n) = inl (record { nth = a .nth; below = omega (arith, a .below, n); there = a .there })
 
-    back : (j : ℕ) → Among s i (c + 1) j → Among s i c j ⊎ (j ≡ predAt s i c)
+    back : (j : ℕ) → Names s i (c + 1) j → Names s i c j ⊎ (j ≡ predAt s i c)
     back j a = pick j a (ℕ-discrete (a .nth) c)
 
 module _ {p : Pick} {s : List ℕ} {i : ℕ} where
@@ -113,13 +113,6 @@ module _ {p : Pick} {s m : List ℕ} {r : ℕ} (R : Ready s r) where
       go : Paint (Reached p s m i j) 1 (getD m j 0) (getD m′ j 0) → Reached p s m i j
       go (hit x e′) = x
       go (miss n e′) = start (sym e′ ∙ e)
-
-  pub spread-off : {m′ : List ℕ} {i j : ℕ} → Painted (Reached p s m i) 1 m m′ → ¬ (getD m′ j 0 ≡ 1) → ¬ Reached p s m i j
-  spread-off {m′} {i} {j} w n x = go (w .each j)
-    where
-      go : Paint (Reached p s m i j) 1 (getD m j 0) (getD m′ j 0) → ⊥
-      go (hit y e) = n e
-      go (miss z e) = z x
 
   pub spread-more : {m′ u : List ℕ} {i : ℕ} → i < countOf s → Painted (Reached p s m (suc i)) 1 m m′ → getD m′ i 0 ≡ 1 → Picked p s i → Painted (Lists s i) 1 m′ u → Painted (Reached p s m i) 1 m u
   spread-more {m′} {u} {i} h w e q l = painted-as into back (painted-two w l)

@@ -1,12 +1,12 @@
 -- Lists that a caller lends, held against a store.
 -- Assumes nothing.
-use Prim.Native.Nat.{ℕ, _*_, _<_}
+use Prim.Native.Nat.{ℕ, _<_}
 use mathlib.Core.Path.{_≡_}
 use mathlib.Core.List.{List}
 use lib.ListN.{length, getD}
 use Rattle.rules.specs.Lists.{SetOf}
-use Rattle.rules.specs.Bytes.{numberAt}
 use Rattle.rules.specs.Graph.{Held}
+use Rattle.digest.specs.Lists.{Among}
 use Rattle.store.specs.Layout.{countOf, digestAt, memberAt, kindAt, opsOf}
 
 -- the set P has r members
@@ -15,21 +15,15 @@ pub record Sized (P : ℕ → Type 0) (r : ℕ) : Type 0 where
   pub all : SetOf P members
   pub counted : length members ≡ r
 
--- d is among the first k digests of the list l
-pub record Stood (l : List ℕ) (k d : ℕ) : Type 0 where
-  pub nth : ℕ
-  pub below : nth < k
-  pub there : numberAt l (32 * nth) 32 ≡ d
-
--- d is among them and isn't held
+-- d is among the first k digests of the list l and isn't held
 pub record Missing (s l : List ℕ) (k d : ℕ) : Type 0 where
-  pub stood : Stood l k d
+  pub among : Among l k d
   pub lacks : ¬ Held (opsOf s) d
 
--- the digest of place j is among them
+-- the digest of place j is among the first k of the list l
 pub record Wanted (s l : List ℕ) (k j : ℕ) : Type 0 where
   pub below : j < countOf s
-  pub stood : Stood l k (digestAt s j)
+  pub among : Among l k (digestAt s j)
 
 -- record i is an add of the member
 pub record Adds (s : List ℕ) (i member : ℕ) : Type 0 where

@@ -22,14 +22,14 @@ abbrev pub Picked : Pick → List ℕ → ℕ → Type 0
 Picked p s i = Passes p (opOf s i)
 
 -- one of the first c slots of record i names place j
-pub record Among (s : List ℕ) (i c j : ℕ) : Type 0 where
+pub record Names (s : List ℕ) (i c j : ℕ) : Type 0 where
   pub nth : ℕ
   pub below : nth < c
   pub there : predAt s i nth ≡ j
 
 -- record i lists place j
 abbrev pub Lists : List ℕ → ℕ → ℕ → Type 0
-Lists s i j = Among s i (predsAt s i) j
+Lists s i j = Names s i (predsAt s i) j
 
 -- one of the first n records is picked and lists place j
 pub record Listed (p : Pick) (s : List ℕ) (n j : ℕ) : Type 0 where

@@ -1,18 +1,19 @@
 // Walks over a sound store: each leaves a mark for each of its operations, in arrays that the caller lends.
 ghost use Prim.Native.Nat.{ℕ, _+_, _*_, _/_, _≤_, _<_};
-ghost use mathlib.Core.Path.{_≡_};
-ghost use mathlib.Core.List.{List};
+ghost use mathlib.Core.List.{[], _∷_};
 ghost use lib.ListN.{length, getD};
-ghost use Rattle.rules.specs.Bytes.{numberAt, digestOf, digestsOf};
+ghost use Rattle.rules.specs.Bytes.{digestOf, digestsOf};
 ghost use Rattle.rules.specs.Answers.{Says};
 ghost use Rattle.rules.specs.Lists.{_∈_};
 ghost use Rattle.rules.specs.Graph.{Head, Child, InPast};
 ghost use Rattle.rules.specs.Small.{AddBefore};
-ghost use Rattle.rules.specs.Updates.{Nearest, Chainable};
+ghost use Rattle.rules.specs.Updates.{Chainable};
+ghost use Rattle.digest.specs.Lists.{nth, Among};
 ghost use Rattle.store.specs.Layout.{countOf, digestAt, predsAt, opsOf};
-ghost use Rattle.walk.specs.Marks.{Ready, Painted, Tells, Told};
+ghost use Rattle.walk.specs.Marks.{Ready, Painted, Told};
 ghost use Rattle.walk.specs.Passes.{Picked, Lists, Listed, Reached, Plain, Deepest, Deep, Moved};
-ghost use Rattle.walk.specs.Held.{Sized, Stood, Missing, Adds, MarkedAdd};
+ghost use Rattle.walk.specs.Held.{Sized, Missing, Adds, MarkedAdd};
+ghost use Rattle.walk.specs.declared.Pick.the-variants.{All};
 use digest::Order;
 use store::Found;
 
@@ -107,8 +108,8 @@ fn keep_updates(s: &[u8], marks: &mut [u8])
     }
 }
 
-// Moves the marks to the first updates that are met going back from them.
-fn move_to_updates(s: &[u8], marks: &mut [u8])
+// Moves the marks to the nearest updates: those met first going back from them.
+pub fn nearest(s: &[u8], marks: &mut [u8])
     requires { ⌜ Ready (now s) (length (now marks)) ⌝ }
     ensures { λ r. ⌜ Moved (now (s .entry)) (now (marks .entry)) (now (marks .exit)) ⌝ }
 {
@@ -132,23 +133,15 @@ pub fn chainable(s: &[u8], marks: &mut [u8])
 {
     fill(marks, store::count(s), 0);
     mark_all_listed(s, Pick::Updates, marks, 1);
-    move_to_updates(s, marks);
+    nearest(s, marks);
 }
 
-// Spreads marks from the operations of a list to all that is at or before them.
+// Spreads the marks to all that is at or before a marked place.
 pub fn past(s: &[u8], marks: &mut [u8])
     requires { ⌜ Ready (now s) (length (now marks)) ⌝ }
-    ensures { λ r. ⌜ ((ds : List ℕ) → Tells (now (s .entry)) (λ d. d ∈ ds) (now (marks .entry)) → Told (now (s .entry)) (InPast (opsOf (now (s .entry))) ds) (now (marks .entry)) (now (marks .exit))) ⌝ }
+    ensures { λ r. ⌜ Painted (Reached All (now (s .entry)) (now (marks .entry)) 0) 1 (now (marks .entry)) (now (marks .exit)) ⌝ }
 {
     spread(s, Pick::All, marks);
-}
-
-// Moves marks from the operations of a list to the nearest updates of the list.
-pub fn nearest(s: &[u8], marks: &mut [u8])
-    requires { ⌜ Ready (now s) (length (now marks)) ⌝ }
-    ensures { λ r. ⌜ ((ds : List ℕ) → Tells (now (s .entry)) (λ d. d ∈ ds) (now (marks .entry)) → Told (now (s .entry)) (Nearest (opsOf (now (s .entry))) ds) (now (marks .entry)) (now (marks .exit))) ⌝ }
-{
-    move_to_updates(s, marks);
 }
 
 // Whether record i lists place p.
@@ -217,7 +210,7 @@ pub fn depths(s: &[u8], depths: &mut [u16])
 // Whether the k-th digest of a list stands in it before.
 fn stood(l: &[u8], k: usize) -> bool
     requires { ⌜ 32 * k + 32 ≤ length (now l) ⌝ }
-    ensures { λ r. ⌜ Says r (Stood (now (l .entry)) k (numberAt (now (l .entry)) (32 * k) 32)) ⌝ }
+    ensures { λ r. ⌜ Says r (Among (now (l .entry)) k (nth (now (l .entry)) k)) ⌝ }
 {
     let mut j: usize = 0;
     while j < k {
@@ -287,11 +280,11 @@ fn any_add(s: &[u8], marks: &[u8], member: &[u8]) -> bool
     false
 }
 
-// Whether an add of the member is at or before place p.
+// Whether an add of the member is at or before place p; marks what is there.
 pub fn add_before(s: &[u8], p: usize, member: &[u8], marks: &mut [u8]) -> bool
     requires { ⌜ Ready (now s) (length (now marks)) ⌝ }
     requires { ⌜ (p < countOf (now s)) × (32 ≤ length (now member)) ⌝ }
-    ensures { λ r. ⌜ Says r (AddBefore (opsOf (now (s .entry))) (digestOf (now (member .entry))) (digestAt (now (s .entry)) p)) ⌝ }
+    ensures { λ r. ⌜ Says r (AddBefore (opsOf (now (s .entry))) (digestOf (now (member .entry))) (digestAt (now (s .entry)) p)) × Told (now (s .entry)) (InPast (opsOf (now (s .entry))) (digestAt (now (s .entry)) p ∷ [])) (now (marks .entry)) (now (marks .exit)) ⌝ }
 {
     fill(marks, store::count(s), 0);
     marks[p] = 1;

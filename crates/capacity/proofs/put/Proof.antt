@@ -68,7 +68,7 @@ append-requires c κs =
     let n = g .before .before .before .before .before .before .before .before .before in
     let t = n .before .before in
     let a = t .before .before .before .before .before .before .before .args in
-    let S = gathers-slots (a .s .now) (n .count .result) (a .list .now) (g .gather .last .1 .1 .1 .0) (g .gather .result) (c .before .before .before .before .before .c .given .0 .0) (g .gather .ensures) (c .before .before .before .before .before .c .given .1) in
+    let S = gathers-slots (a .s .now) (n .count .result) (a .list .now) _ (g .gather .last .1 .1 .1 .0) (g .gather .result) (c .before .before .before .before .before .c .given .0 .0) (g .gather .ensures) (c .before .before .before .before .before .c .given .1) .slots in
     let e = n .count .ensures .0 in
     ((omega arith, omega arith, omega (arith, S .few)), (sound-laid (is-sound t), (omega (arith, e, frame t .few, g .before .before .before .if4 .left), rw (← e) (slotted-offer (a .d .now) 0 (a .m .now) 0 S (omega arith) (omega arith) (omega arith) (omega arith)))))
 

@@ -2,7 +2,7 @@
 -- Assumes nothing.
 use mathlib.Core.Path.{sym, _∙_}
 use borrow.Author.Needs.{needs}
-use Rattle.digest.proofs.Orders.{told-apart, told-equal}
+use Rattle.digest.proofs.Orders.{stands-apart, stands-equal}
 use Rattle.walk.proofs.adds.Statement.{statement}
 use Rattle.walk.proofs.adds.Tie as tie
 use Rattle.walk.proofs.adds.Reads as reads
@@ -26,10 +26,10 @@ enum-told : tie.Need-enum-told
 enum-told c = search needs
 
 returns : tie.Need-returns
-returns c = let k = c .before .before in record { add = sym (c .before .before .before .before .kind-at .ensures) ∙ c .before .before .before .if1 .taken; adds = told-equal (k .compare .result) (k .compare .ensures) (c .enum-told .given .1) }
+returns c = let k = c .before .before in record { add = sym (c .before .before .before .before .kind-at .ensures) ∙ c .before .before .before .if1 .taken; adds = stands-equal (k .compare .result) (k .compare .ensures) (c .enum-told .given .1) }
 
 returns-2 : tie.Need-returns-2
-returns-2 c = λ x. told-apart (c .before .compare .result) (c .before .compare .ensures) (c .match .keys2) (x .adds)
+returns-2 c = λ x. stands-apart (c .before .compare .result) (c .before .compare .ensures) (c .match .keys2) (x .adds)
 
 returns-3 : tie.Need-returns-3
 returns-3 c = λ x. c .if1 .left (c .before .kind-at .ensures ∙ x .add)

@@ -11,7 +11,7 @@ use Rattle.walk.proofs.chainable.Lts as lts
 use Rattle.store.proofs.count.Reads as count-reads
 use Rattle.walk.proofs.fill.Reads as fill-reads
 use Rattle.walk.proofs.mark_all_listed.Reads as mark-all-listed-reads
-use Rattle.walk.proofs.move_to_updates.Reads as move-to-updates-reads
+use Rattle.walk.proofs.nearest.Reads as nearest-reads
 
 count-requires : tie.Need-count-requires
 count-requires c κs = ready-head (c .before .before .before .pre)
@@ -22,14 +22,14 @@ fill-requires c κs = omega (arith, c .count .ensures .0, c .before .before .bef
 mark-all-listed-requires : tie.Need-mark-all-listed-requires
 mark-all-listed-requires c κs = rw (c .before .before .before .fill .ensures .size) (c .before .before .before .before .before .before .before .before .pre)
 
-move-to-updates-requires : tie.Need-move-to-updates-requires
-move-to-updates-requires c κs = rw (c .before .before .before .mark-all-listed .ensures .size, c .before .before .before .before .before .before .before .fill .ensures .size) (c .before .before .before .before .before .before .before .before .before .before .before .before .pre)
+nearest-requires : tie.Need-nearest-requires
+nearest-requires c κs = rw (c .before .before .before .mark-all-listed .ensures .size, c .before .before .before .before .before .before .before .fill .ensures .size) (c .before .before .before .before .before .before .before .before .before .before .before .before .pre)
 
 same-length : tie.Need-same-length
-same-length c = c .before .before .move-to-updates .ensures .kept .size ∙ c .before .before .move-to-updates .ensures .spread .size ∙ c .before .before .before .before .before .before .mark-all-listed .ensures .size ∙ c .before .before .before .before .before .before .before .before .before .before .fill .ensures .size
+same-length c = c .before .before .nearest .ensures .kept .size ∙ c .before .before .nearest .ensures .spread .size ∙ c .before .before .before .before .before .before .mark-all-listed .ensures .size ∙ c .before .before .before .before .before .before .before .before .before .before .fill .ensures .size
 
 returns : tie.Need-returns
-returns c = chainable-told (c .before .before .before .before .before .before .before .before .before .before .before .before .before .before .before .pre) (rw (c .before .before .before .before .before .before .before .before .before .before .before .count .ensures .0) at (c .before .before .before .before .before .before .before .before .before .before .fill .ensures)) (c .before .before .before .before .before .before .mark-all-listed .ensures) (c .before .before .move-to-updates .ensures)
+returns c = chainable-told (c .before .before .before .before .before .before .before .before .before .before .before .before .before .before .before .pre) (rw (c .before .before .before .before .before .before .before .before .before .before .before .count .ensures .0) at (c .before .before .before .before .before .before .before .before .before .before .fill .ensures)) (c .before .before .before .before .before .before .mark-all-listed .ensures) (c .before .before .nearest .ensures)
 
 pub chainable-spec : {M : Type 1} → statement M
 chainable-spec =
@@ -38,6 +38,6 @@ chainable-spec =
     count-requires
     fill-requires
     mark-all-listed-requires
-    move-to-updates-requires
+    nearest-requires
     same-length
     returns)

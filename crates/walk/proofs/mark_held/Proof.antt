@@ -1,16 +1,16 @@
 -- `walk::mark_held` meets its contract. The loop's invariant: k digests of the list are done.
 -- Assumes nothing.
-use Prim.Native.Nat.{ℕ, _+_, _*_, _/_, _-_, _≤_, _<_}
+use Prim.Native.Nat.{ℕ, _+_, _/_, _-_, _≤_, _<_}
 use native.Mathlib.Omega.{arith}
 use mathlib.Core.Path.{_≡_, _∙_}
 use lib.ListN.{length}
 use borrow.Author.Needs.{needs}
 use Rattle.store.specs.Layout.{countOf, digestAt}
 use Rattle.rules.specs.Answers.{Says}
-use Rattle.rules.specs.Bytes.{numberAt}
+use Rattle.digest.specs.Lists.{nth, Among}
 use Rattle.store.proofs.Tests.{looked-none, looked-at}
 use Rattle.rules.proofs.Answers.{says-yes, says-no}
-use Rattle.walk.specs.Held.{Sized, Stood, Missing, Wanted}
+use Rattle.walk.specs.Held.{Sized, Missing, Wanted}
 use Rattle.walk.specs.Marks.{Painted}
 use Rattle.walk.proofs.Held.{missing-none, wanted-more, missing-held, wanted-same, missing-again, missing-more, held-told, wanted-none}
 use Rattle.walk.proofs.Painting.{ready-room, ready-head}
@@ -56,13 +56,13 @@ enum-known-i c = search needs
 -- the digest is held at the place found
 place : (c : tie.After-known-told Inv-loop μ-loop) →
     let w = c .before .before .before .before .before .before .before .before .before .before .before .before .before .before in
-    (c .before .i .given .0 .0 < countOf (w .args .s .now)) × (digestAt (w .args .s .now) (c .before .i .given .0 .0) ≡ numberAt (w .args .l .now) (32 * c .before .before .before .before .before .loop .k) 32)
+    (c .before .i .given .0 .0 < countOf (w .args .s .now)) × (digestAt (w .args .s .now) (c .before .i .given .0 .0) ≡ nth (w .args .l .now) (c .before .before .before .before .before .loop .k))
 place c =
     let u = c .before .before .before in
     let l = u .before .before in
     let w = l .before .before .before .before .before .before .before .before .before in
     let e : l .loop .k + 1 - 1 ≡ l .loop .k = omega arith in
-    let x = looked-at (u .look-up .result) (w .args .s .now) _ (numberAt (w .args .l .now) (32 * (l .loop .k + 1 - 1)) 32) (c .before .i .given .0 .0) (u .look-up .ensures) (c .before .i .given .1) in
+    let x = looked-at (u .look-up .result) (w .args .s .now) _ (nth (w .args .l .now) (l .loop .k + 1 - 1)) (c .before .i .given .0 .0) (u .look-up .ensures) (c .before .i .given .1) in
     (omega (arith, x .0, l .before .before .before .before .before .count .ensures .0), rw e at (x .1))
 
 in-marks : (c : tie.After-known-told Inv-loop μ-loop) → c .before .i .given .0 .0 < length (c .before .before .before .before .before .loop .marks)
@@ -86,13 +86,13 @@ enum-told c = search needs
 -- the digest isn't held
 lacking : (c : tie.After-enum-told Inv-loop μ-loop) →
     let w = c .before .before .before .before .before .before .before .before .before .before .before .before .before in
-    (j : ℕ) → j < countOf (w .args .s .now) → digestAt (w .args .s .now) j ≡ numberAt (w .args .l .now) (32 * c .before .before .before .before .loop .k) 32 → ⊥
+    (j : ℕ) → j < countOf (w .args .s .now) → digestAt (w .args .s .now) j ≡ nth (w .args .l .now) (c .before .before .before .before .loop .k) → ⊥
 lacking c j h q =
     let u = c .before .before in
     let l = u .before .before in
     let w = l .before .before .before .before .before .before .before .before .before in
     let e : l .loop .k ≡ l .loop .k + 1 - 1 = omega arith in
-    looked-none (u .look-up .result) (w .args .s .now) _ (numberAt (w .args .l .now) (32 * (l .loop .k + 1 - 1)) 32) (u .look-up .ensures) (c .enum-told .given .1) j (omega (arith, h, l .before .before .before .before .before .count .ensures .0)) (rw e at q)
+    looked-none (u .look-up .result) (w .args .s .now) _ (nth (w .args .l .now) (l .loop .k + 1 - 1)) (u .look-up .ensures) (c .enum-told .given .1) j (omega (arith, h, l .before .before .before .before .before .count .ensures .0)) (rw e at q)
 
 sub-stood : tie.Need-sub-stood Inv-loop μ-loop
 sub-stood c = search needs
@@ -103,7 +103,7 @@ stood-requires c κs = omega arith
 before-here : (c : tie.After-stood Inv-loop μ-loop) →
     let w = c .before .before .before .before .before .before .before .before .before .before .before .before .before .before in
     let k = c .before .before .before .before .before .loop .k in
-    Says (c .stood .result) (Stood (w .args .l .now) k (numberAt (w .args .l .now) (32 * k) 32))
+    Says (c .stood .result) (Among (w .args .l .now) k (nth (w .args .l .now) k))
 before-here c =
     let l = c .before .before .before .before .before in
     let e : l .loop .k + 1 - 1 ≡ l .loop .k = omega arith in

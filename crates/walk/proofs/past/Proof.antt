@@ -1,7 +1,6 @@
 -- `walk::past` meets its contract.
 -- Assumes nothing.
 use borrow.Author.Needs.{needs}
-use Rattle.walk.proofs.Told.{past-told}
 use Rattle.walk.proofs.past.Statement.{statement}
 use Rattle.walk.proofs.past.Tie as tie
 use Rattle.walk.proofs.past.Reads as reads
@@ -15,7 +14,7 @@ same-length : tie.Need-same-length
 same-length c = search needs
 
 returns : tie.Need-returns
-returns c = past-told (c .before .before .before .before .before .before .pre) (c .before .before .spread .ensures)
+returns c = c .before .before .spread .ensures
 
 pub past-spec : {M : Type 1} → statement M
 past-spec = tie.close (tie.spec spread-requires same-length returns)

@@ -1,12 +1,12 @@
 -- `walk::stood` meets its contract. The loop's invariant: none of the first j digests is the k-th.
 -- Assumes nothing.
-use Prim.Native.Nat.{ℕ, _*_, _-_, _≤_, _<_}
+use Prim.Native.Nat.{ℕ, _-_, _≤_, _<_}
 use native.Mathlib.Omega.{arith}
 use mathlib.Core.Path.{_≡_}
 use borrow.Author.Needs.{needs}
 use borrow.Author.Count.{below-more}
-use Rattle.rules.specs.Bytes.{numberAt}
-use Rattle.digest.proofs.Orders.{told-apart, told-equal}
+use Rattle.digest.specs.Lists.{nth}
+use Rattle.digest.proofs.Orders.{stands-apart, stands-equal}
 use Rattle.walk.proofs.stood.Statement.{statement}
 use Rattle.walk.proofs.stood.Tie as tie
 use Rattle.walk.proofs.stood.Reads as reads
@@ -14,7 +14,7 @@ use Rattle.walk.proofs.stood.Lts as lts
 use Rattle.digest.proofs.compare.Reads as compare-reads
 
 abbrev Inv-loop : tie.InvT-loop
-Inv-loop l k j₀ j = (j ≤ k) × ((x : ℕ) → x < j → numberAt l (32 * x) 32 ≡ numberAt l (32 * k) 32 → ⊥)
+Inv-loop l k j₀ j = (j ≤ k) × ((x : ℕ) → x < j → nth l x ≡ nth l k → ⊥)
 
 abbrev μ-loop : tie.MeasureT-loop
 μ-loop l k j₀ j = k - j
@@ -35,7 +35,7 @@ enum-told : tie.Need-enum-told Inv-loop μ-loop
 enum-told c = search needs
 
 returns : tie.Need-returns Inv-loop μ-loop
-returns c = let k = c .before .before in record { nth = c .before .before .before .before .loop .j; below = omega arith; there = told-equal (k .compare .result) (k .compare .ensures) (c .enum-told .given .1) }
+returns c = let k = c .before .before in record { place = c .before .before .before .before .loop .j; within = omega arith; there = stands-equal (k .compare .result) (k .compare .ensures) (c .enum-told .given .1) }
 
 add-j : tie.Need-add-j Inv-loop μ-loop
 add-j c = search needs
@@ -44,10 +44,10 @@ loop-less : tie.Need-loop-less Inv-loop μ-loop
 loop-less c = search needs
 
 loop-again : tie.Need-loop-again Inv-loop μ-loop
-loop-again c = let l = c .before .before .before in (omega arith, below-more _ _ (l .loop .inv .1) (told-apart (c .before .compare .result) (c .before .compare .ensures) (c .match .keys2)))
+loop-again c = let l = c .before .before .before in (omega arith, below-more _ _ (l .loop .inv .1) (stands-apart (c .before .compare .result) (c .before .compare .ensures) (c .match .keys2)))
 
 returns-2 : tie.Need-returns-2 Inv-loop μ-loop
-returns-2 c = λ x. c .before .loop .inv .1 (x .nth) (omega (arith, x .below)) (x .there)
+returns-2 c = λ x. c .before .loop .inv .1 (x .place) (omega (arith, x .within)) (x .there)
 
 pub stood-spec : {M : Type 1} → statement M
 stood-spec =
