@@ -20,7 +20,7 @@ use Rattle.rules.specs.Graph.{Op}
 use Rattle.rules.specs.Lists.{Alike}
 use Rattle.rules.proofs.Batches.{batches-unique}
 use Rattle.rules.proofs.Bytes.{number-bytes}
-use Rattle.rules.proofs.First.{first-unique, Matched, first-moves, None, Apart, first-skips, matched-append}
+use Rattle.rules.proofs.First.{first-unique, Matched, first-moves, None, Apart, first-skips, first-past, first-stays, matched-append}
 use Rattle.rules.proofs.Formed.{Formed}
 use Rattle.rules.proofs.Lists.{set-unique, set-same, alike-sym}
 use Rattle.rules.proofs.Same.{batches-same}
@@ -85,6 +85,33 @@ put-none {s} {t} p = ext-getD 0 t s (p .size) (λ j l. p .past j (omega arith))
 
 pub put-marks-none : {s t : List ℕ} → PutMarks [] s t → t ≡ s
 put-marks-none {s} {t} p = ext-getD 0 t s (p .size) (λ j l. p .past j (omega arith))
+
+-- what is refused, and what is answered where nothing is
+pub listed-refused : {rs : List (ℕ × Type 0)} {P : ℕ → Type 0} {s : List ℕ} {n : ℕ} → ¬ (n ≡ 0) → First rs n → Listed rs P s s n 0
+listed-refused {rs} {n = n} z f =
+    record {
+      number = first-stays rs _ n z f;
+      ds = [];
+      done = λ e. absurd (z e);
+      refused = λ e. refl;
+      counted = refl;
+      put = record { size = refl; there = λ i b. absurd (omega arith); past = λ j b. refl };
+    }
+
+pub listed-past : {rs : List (ℕ × Type 0)} {P : ℕ → Type 0} {s t : List ℕ} {n c : ℕ} → None rs → Listed [] P s t n c → Listed rs P s t n c
+listed-past {rs} {n = n} a p = record { number = first-past rs _ n a (p .number); ds = p .ds; done = p .done; refused = p .refused; counted = p .counted; put = p .put }
+
+pub answered-refused : {rs : List (ℕ × Type 0)} {P : Type 0} {n : ℕ} → ¬ (n ≡ 0) → First rs n → Answered rs P n false
+answered-refused z f = record { number = f; done = λ e. absurd (z e); refused = λ e. refl }
+
+pub answered-done : {rs : List (ℕ × Type 0)} {P : Type 0} {b : Bool} → First rs 0 → Says b P → Answered rs P 0 b
+answered-done f p = record { number = f; done = λ e. p; refused = λ z. absurd (z refl) }
+
+pub valued-refused : {rs : List (ℕ × Type 0)} {P : ℕ → Type 0} {n : ℕ} → ¬ (n ≡ 0) → First rs n → Valued rs P n 0
+valued-refused z f = record { number = f; done = λ e. absurd (z e); refused = λ e. refl }
+
+pub valued-done : {rs : List (ℕ × Type 0)} {P : ℕ → Type 0} {v : ℕ} → First rs 0 → P v → Valued rs P 0 v
+valued-done f p = record { number = f; done = λ e. p; refused = λ z. absurd (z refl) }
 
 pub listed-unique : {rs : List (ℕ × Type 0)} {P : ℕ → Type 0} {s t u : List ℕ} {n m c e : ℕ} → Bytes t → Bytes u → Listed rs P s t n c → Listed rs P s u m e → (n ≡ m) × (c ≡ e) × (t ≡ u)
 listed-unique {rs} {P} {s} {t} {u} {n} {m} a b p q = (number, p .counted ∙ ap length list ∙ sym (q .counted), put-unique a b (p .put) (subst (λ l. Put l s u) (sym list) (q .put)))

@@ -2,7 +2,7 @@
 -- Assumes nothing.
 use Prim.Native.Nat.{ℕ, zero, suc}
 use native.Mathlib.Omega.{arith}
-use mathlib.Core.Path.{_≡_, sym, _∙_}
+use mathlib.Core.Path.{_≡_, refl, sym, _∙_}
 use mathlib.Core.Logic.{inl, inr, _↔_}
 use mathlib.Core.List.{List, [], _∷_, _++_}
 use Rattle.rules.specs.First.{First}
@@ -14,6 +14,19 @@ first-unique (c ∷ cs) (inl p) (inl q) = p .1 ∙ sym (q .1)
 first-unique (c ∷ cs) (inl p) (inr q) = absurd (q .0 (p .0))
 first-unique (c ∷ cs) (inr p) (inl q) = absurd (p .0 (q .0))
 first-unique (c ∷ cs) (inr p) (inr q) = first-unique cs (p .1) (q .1)
+
+-- the first condition holds, or a later one gives the number, or none holds
+pub first-done : First [] 0
+unfolding First
+first-done = refl
+
+pub first-here : (n : ℕ) (P : Type 0) (cs : List (ℕ × Type 0)) → P → First ((n, P) ∷ cs) n
+unfolding First
+first-here n P cs p = inl (p, refl)
+
+pub first-next : (m : ℕ) (P : Type 0) (cs : List (ℕ × Type 0)) (n : ℕ) → ¬ P → First cs n → First ((m, P) ∷ cs) n
+unfolding First
+first-next m P cs n p q = inr (p, q)
 
 -- the same numbers, and each condition as strong as the other list's where none holds before it
 abbrev pub Matched : List (ℕ × Type 0) → List (ℕ × Type 0) → Type 0
@@ -46,6 +59,19 @@ unfolding First
 first-skips [] ds n a p = (tt, p)
 first-skips (c ∷ cs) ds n a (inl p) = absurd (a .0 (p .1))
 first-skips (c ∷ cs) ds n a (inr p) = let r = first-skips cs ds n (a .1) (p .1) in ((p .0, r .0), r .1)
+
+-- none of the first conditions holds, and a later one gives the number
+pub first-past : (cs ds : List (ℕ × Type 0)) (n : ℕ) → None cs → First ds n → First (cs ++ ds) n
+unfolding First
+first-past [] ds n a p = p
+first-past (c ∷ cs) ds n a p = inr (a .0, first-past cs ds n (a .1) p)
+
+-- a refusal by the first conditions
+pub first-stays : (cs ds : List (ℕ × Type 0)) (n : ℕ) → ¬ (n ≡ 0) → First cs n → First (cs ++ ds) n
+unfolding First
+first-stays [] ds n z p = absurd (z p)
+first-stays (c ∷ cs) ds n z (inl p) = inl p
+first-stays (c ∷ cs) ds n z (inr p) = inr (p .0, first-stays cs ds n z (p .1))
 
 -- lists that match, and match in what follows where none of them holds
 pub matched-append : (cs ds es fs : List (ℕ × Type 0)) → Matched cs ds → (None cs → Matched es fs) → Matched (cs ++ es) (ds ++ fs)

@@ -49,6 +49,10 @@ module _ {s : List ℕ} {r : ℕ} (R : Ready s r) where
   pub ready-laid : Laid (R .limits) s
   ready-laid = sound-laid (R .sound)
 
+  -- without room for marks
+  pub ready-bare : Ready s (countOf s)
+  ready-bare = record { limits = R .limits; roomy = R .roomy; sound = R .sound; enough = omega arith }
+
   pub ready-size : (i : ℕ) → i < countOf s → 162 + 98 * i ≤ length s
   ready-size i h = omega (arith, ready-laid .frame .size, ready-laid .frame .few)
 

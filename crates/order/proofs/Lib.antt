@@ -1,0 +1,4 @@
+pub mod Mixing
+pub mod Heaps
+pub mod Sorting
+pub mod Ordered
