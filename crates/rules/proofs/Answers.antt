@@ -1,13 +1,13 @@
 -- Each shape of answer is met by one outcome, and moves along equal refusals and an equal meaning.
 -- Assumes nothing.
-use Prim.Native.Nat.{ℕ, _+_, _*_, _/_, _%_, _<_}
+use Prim.Native.Nat.{ℕ, _+_, _*_, _/_, _%_, _≤_, _<_}
 use native.Mathlib.Omega.{arith}
 use native.Mathlib.Decide.{ℕ-discrete, decLt}
 use native.Mathlib.Nat.{zero-add}
 use mathlib.Core.Path.{_≡_, refl, sym, _∙_, ap, subst}
 use mathlib.Core.Bool.{Bool, true, false, not}
 use mathlib.Core.Logic.{_⊎_, inl, inr, _↔_}
-use mathlib.Core.List.{List, [], _∷_, _++_, append-nil}
+use mathlib.Core.List.{List, [], _∷_, _++_, append-nil, List·Memᴰ·not-nil}
 use lib.ListN.{length, getD}
 use lib.Seq.{ext-getD}
 use lib.Dec.{eqb}
@@ -17,10 +17,10 @@ use Rattle.rules.specs.Batches.{batchCount, NoBatchRoom, BatchesAnswered
 use Rattle.rules.specs.Bytes.{Bytes, numberAt, digestOf}
 use Rattle.rules.specs.First.{First}
 use Rattle.rules.specs.Graph.{Op}
-use Rattle.rules.specs.Lists.{Alike}
+use Rattle.rules.specs.Lists.{none, Alike, SetOf}
 use Rattle.rules.proofs.Batches.{batches-unique}
 use Rattle.rules.proofs.Bytes.{number-bytes}
-use Rattle.rules.proofs.First.{first-unique, Matched, first-moves, None, Apart, first-skips, first-past, first-stays, matched-append}
+use Rattle.rules.proofs.First.{first-unique, Matched, first-moves, None, Apart, first-skips, first-done, first-here, first-next, first-past, first-stays, matched-append}
 use Rattle.rules.proofs.Formed.{Formed}
 use Rattle.rules.proofs.Lists.{set-unique, set-same, alike-sym}
 use Rattle.rules.proofs.Same.{batches-same}
@@ -86,6 +86,9 @@ put-none {s} {t} p = ext-getD 0 t s (p .size) (λ j l. p .past j (omega arith))
 pub put-marks-none : {s t : List ℕ} → PutMarks [] s t → t ≡ s
 put-marks-none {s} {t} p = ext-getD 0 t s (p .size) (λ j l. p .past j (omega arith))
 
+pub put-nothing : {o : List ℕ} → Put [] o o
+put-nothing = record { size = refl; there = λ i b. absurd (omega arith); past = λ j b. refl }
+
 -- what is refused, and what is answered where nothing is
 pub listed-refused : {rs : List (ℕ × Type 0)} {P : ℕ → Type 0} {s : List ℕ} {n : ℕ} → ¬ (n ≡ 0) → First rs n → Listed rs P s s n 0
 listed-refused {rs} {n = n} z f =
@@ -95,11 +98,37 @@ listed-refused {rs} {n = n} z f =
       done = λ e. absurd (z e);
       refused = λ e. refl;
       counted = refl;
-      put = record { size = refl; there = λ i b. absurd (omega arith); past = λ j b. refl };
+      put = put-nothing;
     }
 
 pub listed-past : {rs : List (ℕ × Type 0)} {P : ℕ → Type 0} {s t : List ℕ} {n c : ℕ} → None rs → Listed [] P s t n c → Listed rs P s t n c
 listed-past {rs} {n = n} a p = record { number = first-past rs _ n a (p .number); ds = p .ds; done = p .done; refused = p .refused; counted = p .counted; put = p .put }
+
+-- a set that is written whole, one that there is no room for, and one without members
+pub listed-whole : {P : ℕ → Type 0} {ds o o′ : List ℕ} → SetOf P ds → 32 * length ds ≤ length o → Put ds o o′ → Listed [] P o o′ 0 (length ds)
+listed-whole {ds = ds} S l p =
+    record {
+      number = first-next _ _ _ _ (λ n. omega (arith, n .short, ap length (set-unique (n .all) S))) first-done;
+      ds = ds;
+      done = λ e. S;
+      refused = λ n. absurd (n refl);
+      counted = refl;
+      put = p;
+    }
+
+pub listed-short : {P : ℕ → Type 0} {ds o : List ℕ} → SetOf P ds → length o < 32 * length ds → Listed [] P o o 9 0
+listed-short {ds = ds} S l =
+    record {
+      number = first-here _ _ _ (record { ds = ds; all = S; short = l });
+      ds = [];
+      done = λ e. absurd (omega arith);
+      refused = λ n. refl;
+      counted = refl;
+      put = put-nothing;
+    }
+
+pub listed-none : {P : ℕ → Type 0} {o : List ℕ} → ((x : ℕ) → ¬ P x) → Listed [] P o o 0 0
+listed-none n = listed-whole (record { ascending = none; into = λ x m. absurd (List·Memᴰ·not-nil m); back = λ x p. absurd (n x p) }) (omega arith) put-nothing
 
 pub answered-refused : {rs : List (ℕ × Type 0)} {P : Type 0} {n : ℕ} → ¬ (n ≡ 0) → First rs n → Answered rs P n false
 answered-refused z f = record { number = f; done = λ e. absurd (z e); refused = λ e. refl }

@@ -16,6 +16,7 @@ pub mod Admission
 pub mod Merge
 pub mod Decide
 pub mod DecideGraph
+pub mod Chainable
 pub mod Offers
 pub mod Log
 pub mod Listing

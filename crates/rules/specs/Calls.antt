@@ -11,7 +11,7 @@ use Rattle.rules.specs.Graph.{Op, Held, Child, Head, Depth}
 use Rattle.rules.specs.Answers.{Listed, Answered, Valued, Parted}
 use Rattle.rules.specs.Updates.{Nearest, Chainable}
 use Rattle.rules.specs.Batches.{BatchesAnswered, batchesForHeadsRefusals, batchesRefusals}
-use Rattle.rules.specs.Question.{Question, listed, kind, SameBatch, listedRefusals, kindRefusals}
+use Rattle.rules.specs.Question.{listed, kind, SameBatch, listedRefusals, kindRefusals}
 use Rattle.rules.specs.Filter.{Observed, filterRefusals}
 use Rattle.rules.specs.Small.{AllHeld, SingleHead, AddBefore, Added, HeldIn, storeRefusals, digestRefusals, heldRefusals, listRefusals, memberRefusals}
 

@@ -5,7 +5,7 @@ use mathlib.Core.Path.{_≡_}
 use mathlib.Core.Logic.{_⊎_}
 use mathlib.Core.List.{List, [], _∷_}
 use Rattle.rules.specs.Lists.{_∈_}
-use Rattle.rules.specs.Bytes.{digestOf, digestsOf}
+use Rattle.rules.specs.Bytes.{digestOf}
 use Rattle.rules.specs.Graph.{Op, Held, Head, InPast}
 use Rattle.rules.specs.Table.{OneDigest, WholeDigests, Over}
 

@@ -9,7 +9,8 @@ use mathlib.Core.List.{List}
 use lib.ListN.{length, getD, set, length-set}
 use lib.Seq.{getD-set-same, getD-set-other}
 use Rattle.store.specs.Layout.{countOf, predsAt, predAt}
-use Rattle.store.specs.Sound.{Laid}
+use Rattle.rules.specs.Table.{Limits, limits}
+use Rattle.store.specs.Sound.{Roomy, Sound, Laid}
 use Rattle.rules.specs.Batches.{Mark}
 use Rattle.store.proofs.Ops.{sound-laid}
 use Rattle.walk.specs.Marks.{Ready, Paint, hit, miss, Painted}
@@ -43,6 +44,13 @@ painted-one m p v h = record { size = length-set m p v; each = λ j. go j (ℕ-d
     go : (j : ℕ) → Dec (j ≡ p) → Paint (j ≡ p) v (getD m j 0) (getD (set m p v) j 0)
     go j (yes e) = hit e (rw e (getD-set-same m p v 0 h))
     go j (no n) = miss n (getD-set-other m p j v 0 n)
+
+-- a sound store is ready for as many marks as it may hold operations
+pub sound-ready : {L : Limits} {s : List ℕ} → Roomy L → Sound L s → Ready s (L .operations)
+sound-ready {L} r S = record { limits = L; roomy = r; sound = S; enough = sound-laid S .frame .few }
+
+pub large-ready : {s : List ℕ} → Sound limits s → Ready s 512
+large-ready S = sound-ready (record { operations = omega arith; predecessors = omega arith }) S
 
 -- what a ready store has
 module _ {s : List ℕ} {r : ℕ} (R : Ready s r) where

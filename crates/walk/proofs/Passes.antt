@@ -9,7 +9,7 @@ use mathlib.Core.List.{List}
 use lib.ListN.{length, getD, set}
 use Rattle.store.specs.Layout.{countOf, kindAt, predAt}
 use Rattle.walk.specs.Marks.{Ready, Paint, hit, miss, Painted}
-use Rattle.walk.specs.Passes.{Picked, Names, Lists, Listed, Reached, start, step, Plain, Deepest}
+use Rattle.walk.specs.Passes.{Picked, OneOf, Lists, Listed, Reached, start, step, Plain, Deepest}
 use Rattle.walk.specs.declared.Pick.{Pick}
 use Rattle.walk.proofs.Painting.{painted-as, painted-two, painted-one, ready-early}
 
@@ -28,19 +28,19 @@ filled-more {m} {m′} {i} {v} h w = painted-as into back (painted-two w (painte
     back : (j : ℕ) → j < i + 1 → (j < i) ⊎ (j ≡ i)
     back j l = pick j l (ℕ-discrete j i)
 
--- the places in the first c slots
-pub names-more : (s : List ℕ) {m m′ : List ℕ} (i c : ℕ) {v : ℕ} → predAt s i c < length m′ → Painted (Names s i c) v m m′ → Painted (Names s i (c + 1)) v m (set m′ (predAt s i c) v)
-names-more s {m} {m′} i c {v} h w = painted-as into back (painted-two w (painted-one m′ (predAt s i c) v h))
+-- one place more of those that f names
+pub one-of-more : (f : ℕ → ℕ) (c : ℕ) {m m′ : List ℕ} {v : ℕ} → f c < length m′ → Painted (OneOf f c) v m m′ → Painted (OneOf f (c + 1)) v m (set m′ (f c) v)
+one-of-more f c {m} {m′} {v} h w = painted-as into back (painted-two w (painted-one m′ (f c) v h))
   where
-    into : (j : ℕ) → Names s i c j ⊎ (j ≡ predAt s i c) → Names s i (c + 1) j
+    into : (j : ℕ) → OneOf f c j ⊎ (j ≡ f c) → OneOf f (c + 1) j
     into j (inl a) = record { nth = a .nth; below = omega (arith, a .below); there = a .there }
     into j (inr e) = record { nth = c; below = omega arith; there = sym e }
 
-    pick : (j : ℕ) (a : Names s i (c + 1) j) → Dec (a .nth ≡ c) → Names s i c j ⊎ (j ≡ predAt s i c)
-    pick j a (yes e) = inr (sym (a .there) ∙ ap (predAt s i) e)
+    pick : (j : ℕ) (a : OneOf f (c + 1) j) → Dec (a .nth ≡ c) → OneOf f c j ⊎ (j ≡ f c)
+    pick j a (yes e) = inr (sym (a .there) ∙ ap f e)
     pick j a (no n) = inl (record { nth = a .nth; below = omega (arith, a .below, n); there = a .there })
 
-    back : (j : ℕ) → Names s i (c + 1) j → Names s i c j ⊎ (j ≡ predAt s i c)
+    back : (j : ℕ) → OneOf f (c + 1) j → OneOf f c j ⊎ (j ≡ f c)
     back j a = pick j a (ℕ-discrete (a .nth) c)
 
 module _ {p : Pick} {s : List ℕ} {i : ℕ} where

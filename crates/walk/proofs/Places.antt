@@ -2,12 +2,16 @@
 -- Assumes nothing.
 use Prim.Native.Nat.{ℕ, _<_}
 use native.Mathlib.Omega.{arith}
-use mathlib.Core.Path.{_≡_, refl, sym, _∙_, subst}
+use mathlib.Core.Path.{_≡_, refl, sym, _∙_, ap, subst}
 use mathlib.Core.List.{List}
 use Rattle.store.specs.Layout.{countOf, digestAt, predsAt, predAt, opOf, opsOf}
+use Rattle.store.specs.Answers.{Looked}
+use Rattle.store.specs.declared.Found.{Found}
+use Rattle.store.specs.declared.Found.the-variants.{At, Nothing}
 use Rattle.rules.specs.Graph.{Op, Held}
 use Rattle.rules.specs.Lists.{_∈_}
 use Rattle.store.proofs.Ops.{ops-length, ops-at, checked-distinct, sound-formed, sound-checked}
+use Rattle.store.proofs.Tests.{looked-at, looked-none}
 use Rattle.rules.proofs.Bytes.{row-in, in-row}
 use Rattle.rules.proofs.Formed.{noOp, Formed, one-op}
 use Rattle.rules.proofs.Lists.{at-in, in-at}
@@ -49,3 +53,12 @@ module _ {s : List ℕ} {r : ℕ} (R : Ready s r) where
   in-lists i j h k m =
       let a = in-row 0 (predsAt s i) (λ k. digestAt s (predAt s i k)) (digestAt s j) m in
       record { nth = a .0; below = a .1; there = one-place (predAt s i (a .0)) j (omega (arith, ready-early R i h (a .0) (a .1))) k (a .2) }
+
+  -- looking up a digest tells whether it is held
+  pub looked-held : (f : Found) (d i : ℕ) → Looked f s (countOf s) d → f ≡ At i → Held (opsOf s) d
+  looked-held f d i l e = let a = looked-at f s (countOf s) d i l e in subst (Held (opsOf s)) (a .1) (held-at i (a .0))
+
+  pub looked-unheld : (f : Found) (d : ℕ) → Looked f s (countOf s) d → f ≡ Nothing → ¬ Held (opsOf s) d
+  looked-unheld f d l e h =
+      let a = place-of (h .stands) in
+      looked-none f s (countOf s) d l e (a .0) (a .1) (ap (λ o. o .digest) (a .2) ∙ h .named)

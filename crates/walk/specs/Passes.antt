@@ -21,15 +21,15 @@ Passes Others o = ¬ (o .kind ≡ 2)
 abbrev pub Picked : Pick → List ℕ → ℕ → Type 0
 Picked p s i = Passes p (opOf s i)
 
--- one of the first c slots of record i names place j
-pub record Names (s : List ℕ) (i c j : ℕ) : Type 0 where
+-- j is one of f 0, f 1, .., c of them
+pub record OneOf (f : ℕ → ℕ) (c j : ℕ) : Type 0 where
   pub nth : ℕ
   pub below : nth < c
-  pub there : predAt s i nth ≡ j
+  pub there : f nth ≡ j
 
 -- record i lists place j
 abbrev pub Lists : List ℕ → ℕ → ℕ → Type 0
-Lists s i j = Names s i (predsAt s i) j
+Lists s i j = OneOf (predAt s i) (predsAt s i) j
 
 -- one of the first n records is picked and lists place j
 pub record Listed (p : Pick) (s : List ℕ) (n j : ℕ) : Type 0 where

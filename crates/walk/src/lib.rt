@@ -10,6 +10,7 @@ ghost use Rattle.rules.specs.Small.{AddBefore};
 ghost use Rattle.rules.specs.Updates.{Chainable};
 ghost use Rattle.digest.specs.Lists.{nth, Among};
 ghost use Rattle.store.specs.Layout.{countOf, digestAt, predsAt, opsOf};
+ghost use Rattle.store.specs.Answers.{Looked};
 ghost use Rattle.walk.specs.Marks.{Ready, Painted, Told};
 ghost use Rattle.walk.specs.Passes.{Picked, Lists, Listed, Reached, Plain, Deepest, Deep, Moved};
 ghost use Rattle.walk.specs.Held.{Sized, Missing, Adds, MarkedAdd};
@@ -205,6 +206,15 @@ pub fn depths(s: &[u8], depths: &mut [u16])
         depths[i] = depth_at(s, i, depths);
         i += 1;
     }
+}
+
+// The place of a digest.
+pub fn place_of(s: &[u8], digest: &[u8]) -> Found
+    requires { ⌜ Ready (now s) (countOf (now s)) ⌝ }
+    requires { ⌜ 32 ≤ length (now digest) ⌝ }
+    ensures { λ r. ⌜ Looked r (now (s .entry)) (countOf (now (s .entry))) (digestOf (now (digest .entry))) ⌝ }
+{
+    store::look_up(s, store::count(s), digest, 0)
 }
 
 // Whether the k-th digest of a list stands in it before.

@@ -5,11 +5,11 @@ use native.Mathlib.Omega.{arith}
 use mathlib.Core.Path.{_≡_, sym}
 use lib.ListN.{length}
 use borrow.Author.Needs.{needs}
-use Rattle.store.specs.Layout.{predsAt}
+use Rattle.store.specs.Layout.{predsAt, predAt}
 use Rattle.walk.specs.Marks.{Painted}
-use Rattle.walk.specs.Passes.{Names}
+use Rattle.walk.specs.Passes.{OneOf}
 use Rattle.walk.proofs.Painting.{painted-none, ready-size, ready-few, ready-early}
-use Rattle.walk.proofs.Passes.{names-more}
+use Rattle.walk.proofs.Passes.{one-of-more}
 use Rattle.walk.proofs.mark_listed.Statement.{statement}
 use Rattle.walk.proofs.mark_listed.Tie as tie
 use Rattle.walk.proofs.mark_listed.Reads as reads
@@ -18,7 +18,7 @@ use Rattle.store.proofs.pred_at.Reads as pred-at-reads
 use Rattle.store.proofs.preds_at.Reads as preds-at-reads
 
 abbrev Inv-loop : tie.InvT-loop
-Inv-loop s i marks₀ v c k₀ marks k = (k ≤ c) × Painted (Names s i k) v marks₀ marks
+Inv-loop s i marks₀ v c k₀ marks k = (k ≤ c) × Painted (OneOf (predAt s i) k) v marks₀ marks
 
 abbrev μ-loop : tie.MeasureT-loop
 μ-loop s i marks₀ v c k₀ marks k = c - k
@@ -49,7 +49,7 @@ loop-less : tie.Need-loop-less Inv-loop μ-loop
 loop-less c = search needs
 
 loop-again : tie.Need-loop-again Inv-loop μ-loop
-loop-again c = let l = c .before .before in let w = l .before .before .before .before in (omega arith, rw (c .pred-at .ensures .0) (names-more (w .args .s .now) (w .args .i) (l .loop .k) (rw (sym (c .pred-at .ensures .0)) (in-marks c)) (l .loop .inv .1)))
+loop-again c = let l = c .before .before in let w = l .before .before .before .before in (omega arith, rw (c .pred-at .ensures .0) (one-of-more (predAt (w .args .s .now) (w .args .i)) (l .loop .k) (rw (sym (c .pred-at .ensures .0)) (in-marks c)) (l .loop .inv .1)))
 
 same-length : tie.Need-same-length Inv-loop μ-loop
 same-length c = c .before .loop .inv .1 .size
