@@ -22,6 +22,10 @@ pub fn say(label: &[u8], n: u64) {
     text(b"\n");
 }
 
+pub fn byte(x: u8) -> u64 {
+    x as u64
+}
+
 pub fn bit(b: bool) -> u64 {
     if b {
         return 1;
@@ -58,7 +62,7 @@ pub fn expand(digits: &[u8], list: &mut [u8]) -> usize
 
 // Prints a number, how many digests are listed, the value of each, and whether the bytes past them are untouched.
 pub fn listed(n: u8, count: usize, out: &[u8]) {
-    number(n as u64);
+    number(byte(n));
     text(b" listed");
     let mut k: usize = 0;
     while k < count {
@@ -66,12 +70,48 @@ pub fn listed(n: u8, count: usize, out: &[u8]) {
             text(b" too many\n");
             return;
         }
-        number(out[32 * k] as u64);
+        number(byte(out[32 * k]));
         k += 1;
     }
     if untouched(out, 32 * k) {
         text(b"\n");
     } else {
         text(b" rest changed\n");
+    }
+}
+
+// A part of a slice; the empty part where the places don't fit.
+pub fn part<'a>(t: &'a [u8], from: usize, to: usize) -> &'a [u8] {
+    if from <= to {
+        if to <= t.len() {
+            return &t[from..to];
+        }
+    }
+    &t[0..0]
+}
+
+pub fn same(a: &[u8], b: &[u8]) -> bool {
+    if a.len() != b.len() {
+        return false;
+    }
+    let mut i: usize = 0;
+    while i < a.len() {
+        if a[i] != b[i] {
+            return false;
+        }
+        i += 1;
+    }
+    true
+}
+
+// Copies what fits.
+pub fn copy(from: &[u8], to: &mut [u8]) {
+    let mut i: usize = 0;
+    while i < to.len() {
+        if from.len() <= i {
+            return;
+        }
+        to[i] = from[i];
+        i += 1;
     }
 }

@@ -3,11 +3,11 @@
 use lib.ListN.{length}
 use Prim.Native.Nat.{_-_, _*_, _≤_}
 use borrow.Author.Needs.{needs}
-use native.Mathlib.Omega.{arith}
 use Rattle.printing.proofs.listed.Statement.{statement}
 use Rattle.printing.proofs.listed.Tie as tie
 use Rattle.printing.proofs.listed.Reads as reads
 use Rattle.printing.proofs.listed.Lts as lts
+use Rattle.printing.proofs.byte.Reads as byte-reads
 use Rattle.printing.proofs.number.Reads as number-reads
 use Rattle.printing.proofs.text.Reads as text-reads
 use Rattle.printing.proofs.untouched.Reads as untouched-reads
@@ -17,6 +17,9 @@ Inv-loop n count out k₀ t6 t7 t8 k = 32 * k ≤ length out
 
 abbrev μ-loop : tie.MeasureT-loop
 μ-loop n count out k₀ t6 t7 t8 k = count - k
+
+byte-requires : tie.Need-byte-requires Inv-loop μ-loop
+byte-requires c κs = search needs
 
 number-requires : tie.Need-number-requires Inv-loop μ-loop
 number-requires c κs = search needs
@@ -39,14 +42,14 @@ text-requires-2 c κs = search needs
 returns : tie.Need-returns Inv-loop μ-loop
 returns c = search needs
 
-mul-number : tie.Need-mul-number Inv-loop μ-loop
-mul-number c = search needs
+mul-byte : tie.Need-mul-byte Inv-loop μ-loop
+mul-byte c = search needs
 
-shared-slice-read-number : tie.Need-shared-slice-read-number Inv-loop μ-loop
-shared-slice-read-number c = search needs
+shared-slice-read-byte : tie.Need-shared-slice-read-byte Inv-loop μ-loop
+shared-slice-read-byte c = search needs
 
-cast-number : tie.Need-cast-number Inv-loop μ-loop
-cast-number c = omega (arith, c .shared-slice-known2 .given (32 * c .before .before .before .loop .k))
+byte-requires-2 : tie.Need-byte-requires-2 Inv-loop μ-loop
+byte-requires-2 c κs = search needs
 
 number-requires-2 : tie.Need-number-requires-2 Inv-loop μ-loop
 number-requires-2 c κs = search needs
@@ -90,6 +93,7 @@ listed-spec =
     (tie.spec
     Inv-loop
     μ-loop
+    byte-requires
     number-requires
     slice-aggregate-text
     text-requires
@@ -97,9 +101,9 @@ listed-spec =
     slice-aggregate-text-2
     text-requires-2
     returns
-    mul-number
-    shared-slice-read-number
-    cast-number
+    mul-byte
+    shared-slice-read-byte
+    byte-requires-2
     number-requires-2
     add-k
     loop-less
