@@ -6,7 +6,7 @@ use native.Mathlib.Decide.{ℕ-discrete, decLt}
 use mathlib.Core.Path.{_≡_, refl, _∙_, subst}
 use mathlib.Core.Logic.{_⊎_, inl, inr}
 use mathlib.Core.List.{List, []}
-use lib.ListN.{length, getD, set, replicate, length-replicate, getD-replicate, List·getD-eq-default}
+use lib.ListN.{length, getD, set}
 use Rattle.rules.specs.Answers.{Listed}
 use Rattle.rules.specs.Batches.{Mark, marked, unmarked}
 use Rattle.rules.specs.Bytes.{row}
@@ -23,31 +23,31 @@ use Rattle.walk.proofs.Told.{paint-hit, paint-miss, mark-as, mark-on, on-mark, 
 use Rattle.order.specs.Sorted.{WroteMarked}
 use Rattle.order.specs.declared.ListAnswer.{ListAnswer}
 use Rattle.order.proofs.Ordered.{wrote-listed}
-use Rattle.admission.specs.Marks.{Set, Passed, Made}
+use Rattle.admission.specs.Marks.{MarkSet, Passed, Made}
 
 module _ {o : List ℕ} {i : ℕ} where
-  set-wider : (j : ℕ) → Set o i j → Set o (i + 1) j
+  set-wider : (j : ℕ) → MarkSet o i j → MarkSet o (i + 1) j
   set-wider j x = record { below = omega (arith, x .below); marked = x .marked }
 
-  set-split : (j : ℕ) → Set o (i + 1) j → Set o i j ⊎ (j ≡ i)
+  set-split : (j : ℕ) → MarkSet o (i + 1) j → MarkSet o i j ⊎ (j ≡ i)
   set-split j x = go (ℕ-discrete j i)
     where
-      go : Dec (j ≡ i) → Set o i j ⊎ (j ≡ i)
+      go : Dec (j ≡ i) → MarkSet o i j ⊎ (j ≡ i)
       go (yes e) = inr e
       go (no n) = inl (record { below = omega (arith, x .below); marked = x .marked })
 
   -- one mark more is looked at: it isn't set, or it is
-  pub set-skip : {v : ℕ} {m t : List ℕ} → ¬ (getD o i 0 ≡ 1) → Painted (Set o i) v m t → Painted (Set o (i + 1)) v m t
+  pub set-skip : {v : ℕ} {m t : List ℕ} → ¬ (getD o i 0 ≡ 1) → Painted (MarkSet o i) v m t → Painted (MarkSet o (i + 1)) v m t
   set-skip n = painted-as set-wider (λ j x. go j x (set-split j x))
     where
-      go : (j : ℕ) → Set o (i + 1) j → Set o i j ⊎ (j ≡ i) → Set o i j
+      go : (j : ℕ) → MarkSet o (i + 1) j → MarkSet o i j ⊎ (j ≡ i) → MarkSet o i j
       go j x (inl y) = y
       go j x (inr e) = absurd (n (rw e at (x .marked)))
 
-  pub set-more : {v : ℕ} {m t : List ℕ} → i < length t → getD o i 0 ≡ 1 → Painted (Set o i) v m t → Painted (Set o (i + 1)) v m (set t i v)
+  pub set-more : {v : ℕ} {m t : List ℕ} → i < length t → getD o i 0 ≡ 1 → Painted (MarkSet o i) v m t → Painted (MarkSet o (i + 1)) v m (set t i v)
   set-more {v} {m} {t} h e w = painted-as into set-split (painted-two w (painted-one t i v h))
     where
-      into : (j : ℕ) → Set o i j ⊎ (j ≡ i) → Set o (i + 1) j
+      into : (j : ℕ) → MarkSet o i j ⊎ (j ≡ i) → MarkSet o (i + 1) j
       into j (inl x) = set-wider j x
       into j (inr q) = rw q (record { below = omega arith; marked = e })
 
@@ -66,7 +66,7 @@ module _ {s : List ℕ} {r : ℕ} (R : Ready s r) (p : List ℕ) (c : ℕ) (with
       go j l (hit x e) = marked e (into j x)
       go j l (miss n e) = unmarked (e ∙ paint-hit (clear .each j) l) (λ i. n (back j l i))
 
-  module _ {w o o′ m′ : List ℕ} (near : Moved s v w) (chainable : Told s (Chainable (opsOf s)) o o′) (taken : Painted (Set o′ (countOf s)) 0 w m′) where
+  module _ {w o o′ m′ : List ℕ} (near : Moved s v w) (chainable : Told s (Chainable (opsOf s)) o o′) (taken : Painted (MarkSet o′ (countOf s)) 0 w m′) where
     nearest : Told s (Nearest (opsOf s) (row c (slotDigest s p))) v w
     nearest = nearest-told R near (row c (slotDigest s p)) slot-tells
 
@@ -78,25 +78,15 @@ module _ {s : List ℕ} {r : ℕ} (R : Ready s r) (p : List ℕ) (c : ℕ) (with
           rest = λ j l. paint-miss (taken .each j) (λ x. omega (arith, x .below)) ∙ nearest .rest j l ∙ paint-miss (slots .each j) (λ x. omega (arith, x .there, within (x .nth) (x .below))) ∙ paint-miss (clear .each j) (λ x. omega arith);
         }
       where
-        go : (j : ℕ) → j < countOf s → Mark (Nearest (opsOf s) (row c (slotDigest s p)) (digestAt s j)) (getD w j 0) → Paint (Set o′ (countOf s) j) 0 (getD w j 0) (getD m′ j 0) → Mark (Passed s p c (digestAt s j)) (getD m′ j 0)
+        go : (j : ℕ) → j < countOf s → Mark (Nearest (opsOf s) (row c (slotDigest s p)) (digestAt s j)) (getD w j 0) → Paint (MarkSet o′ (countOf s) j) 0 (getD w j 0) (getD m′ j 0) → Mark (Passed s p c (digestAt s j)) (getD m′ j 0)
         go j l n (hit x e) = unmarked e (λ y. y .latest (mark-on (chainable .tells .each j l) (x .marked)))
         go j l (marked f n) (miss x e) = marked (e ∙ f) (record { nearest = n; latest = λ y. x (record { below = l; marked = on-mark (chainable .tells .each j l) y }) })
         go j l (unmarked f n) (miss x e) = unmarked (e ∙ f) (λ y. n (y .nearest))
 
-pub zeros-at : (n j : ℕ) → getD {A = ℕ} (replicate n 0) j 0 ≡ 0
-zeros-at n j = go (decLt j n)
-  where
-    go : Dec (j < n) → getD {A = ℕ} (replicate n 0) j 0 ≡ 0
-    go (yes l) = getD-replicate n j 0 0 l
-    go (no l) = List·getD-eq-default (replicate n 0) 0 (omega (arith, length-replicate {A = ℕ} n 0))
-
--- the list of an update, and that of another kind, which makes none chainable
+-- the list of an update
 module _ {s : List ℕ} {r : ℕ} (R : Ready s r) (p : List ℕ) (c k : ℕ) {m h h′ o o′ : List ℕ} {a : ListAnswer} (W : WroteMarked s [] m h h′ o o′ a) where
   listed : Tells s (Made s p c k) m → Listed [] (Made s p c k) o o′ (a .number) (a .count)
   listed T = wrote-listed R (W .sorted) T (λ x y. y .passed .nearest .update .held) (λ j. refl) (W .wrote)
 
   pub made-listed : k ≡ 2 → Tells s (Passed s p c) m → Listed [] (Made s p c k) o o′ (a .number) (a .count)
   made-listed e T = listed (record { each = λ j l. mark-as (λ x. record { update = e; passed = x }) (λ x. x .passed) (T .each j l) })
-
-  pub none-listed : ¬ (k ≡ 2) → ((j : ℕ) → getD m j 0 ≡ 0) → Listed [] (Made s p c k) o o′ (a .number) (a .count)
-  none-listed n z = listed (record { each = λ j l. unmarked (z j) (λ x. n (x .update)) })

@@ -17,7 +17,7 @@ use Rattle.rules.proofs.Admission.{as-offered-unique, offered-admissible}
 use Rattle.rules.proofs.Answers.{put-nothing, no-room-same}
 use Rattle.rules.proofs.Chainable.{not-chainable, made-nearest, nearest-made}
 use Rattle.rules.proofs.Formed.{Formed}
-use Rattle.rules.proofs.First.{None, first-here, first-past, first-stays, first-skips, first-clear, first-moves}
+use Rattle.rules.proofs.First.{None, first-unique, first-here, first-past, first-stays, first-skips, first-clear, first-moves}
 use Rattle.rules.proofs.Lists.{set-same}
 use Rattle.store.specs.Layout.{countOf, opsOf}
 use Rattle.store.specs.Slots.{Gathering}
@@ -25,12 +25,19 @@ use Rattle.store.specs.Writes.{offered}
 use Rattle.store.proofs.Ops.{sound-formed}
 use Rattle.store.proofs.Slots.{slotted-set}
 use Rattle.refusal.specs.Damage.{Damaged}
-use Rattle.admission.specs.Marks.{Made}
-use Rattle.admission.specs.Offers.{inputRefusals, Begun, Offers, Tries}
+use Rattle.admission.specs.Marks.{Made, Worked}
+use Rattle.admission.specs.Offers.{inputRefusals, Begun, Offers, Tries, WorkedFor}
 
 -- the operation with its predecessors in the first c places is the one that is offered
 pub gathered-offered : {s l p q : List ℕ} {c : ℕ} (d : List ℕ) (k : ℕ) (m : List ℕ) → Gathering s (countOf s) l p q (length l / 32) c → AsOffered d k m l (offered s d 0 k m 0 q c)
 gathered-offered d k m G = record { digest = refl; kind = refl; member = refl; preds = slotted-set (G .slots) }
+
+-- the work arrays of a trial
+pub worked-refused : {s d m l q : List ℕ} {k n : ℕ} {w h z : List ℕ} → ¬ (n ≡ 0) → First (admissionRefusals limits (Damaged s) (opsOf s) d k m l) n → WorkedFor s d k m l q false 0 w w h h z z
+worked-refused x f = record { new = λ g. absurd (x (first-unique _ f g)); other = λ y. (refl, refl, refl) }
+
+pub worked-known : {s d m l q : List ℕ} {k : ℕ} {w h z : List ℕ} → WorkedFor s d k m l q true 0 w w h h z z
+worked-known = record { new = λ f e. absurd (true≢false e); other = λ y. (refl, refl, refl) }
 
 module _ {s d m l p q : List ℕ} {k : ℕ} where
   pub tries-refused : {n : ℕ} {o : List ℕ} → ¬ (n ≡ 0) → First (admissionRefusals limits (Damaged s) (opsOf s) d k m l) n → Begun s l p q → Tries s d k m l p q o o n false 0 0
@@ -64,6 +71,9 @@ module _ {s d m l p q : List ℕ} {k : ℕ} where
       }
 
   module _ {c : ℕ} (O : Offers s d k m l p q 0 false c) where
+    pub worked-new : {w w′ h h′ z z′ : List ℕ} → Worked s q c k w w′ h h′ z z′ → WorkedFor s d k m l q false c w w′ h h′ z z′
+    worked-new W = record { new = λ f e. W; other = ⊎-elim (λ n. absurd (n (O .number))) (λ e. absurd (true≢false (sym e))) }
+
     unheld : ¬ Held (opsOf s) (digestOf d)
     unheld h = O .known (refl, h)
 

@@ -17,6 +17,7 @@ use Rattle.store.specs.Layout.{countOf, opsOf}
 use Rattle.store.specs.Slots.{Gathering}
 use Rattle.store.specs.Sound.{Sound}
 use Rattle.refusal.specs.Damage.{Damaged}
+use Rattle.admission.specs.Marks.{Worked}
 
 -- the refusals that come first: the arguments and the store
 abbrev pub inputRefusals : List ℕ → List ℕ → ℕ → List ℕ → List ℕ → List (ℕ × Type 0)
@@ -58,3 +59,9 @@ pub record Tries (s d : List ℕ) (k : ℕ) (m l p q o t : List ℕ) (n : ℕ) (
   pub none : (¬ (n ≡ 0)) ⊎ (b ≡ true) → us ≡ []
   pub counted : u ≡ length us
   pub put : Put us o t
+
+-- the work arrays of a trial: filled for a new operation that only a lack of room can refuse, else as they were; b says that the
+-- digest is known, and c slots of q are the places of the predecessors
+pub record WorkedFor (s d : List ℕ) (k : ℕ) (m l q : List ℕ) (b : Bool) (c : ℕ) (w w′ h h′ z z′ : List ℕ) : Type 0 where
+  pub new : First (admissionRefusals limits (Damaged s) (opsOf s) d k m l) 0 → b ≡ false → Worked s q c k w w′ h h′ z z′
+  pub other : (¬ First (admissionRefusals limits (Damaged s) (opsOf s) d k m l) 0) ⊎ (b ≡ true) → (w′ ≡ w) × (h′ ≡ h) × (z′ ≡ z)

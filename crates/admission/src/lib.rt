@@ -13,8 +13,8 @@ ghost use Rattle.store.specs.Sound.{Sound, Freshened};
 ghost use Rattle.refusal.specs.Damage.{Tested};
 ghost use Rattle.walk.specs.Marks.{Ready, Painted, Told};
 ghost use Rattle.walk.specs.Passes.{OneOf};
-ghost use Rattle.admission.specs.Marks.{Set, Passed, Made};
-ghost use Rattle.admission.specs.Offers.{inputRefusals, Fits, Offers, Tries};
+ghost use Rattle.admission.specs.Marks.{MarkSet, Passed, Made, Worked};
+ghost use Rattle.admission.specs.Offers.{inputRefusals, Fits, Offers, Tries, WorkedFor};
 ghost use Rattle.admission.specs.Adds.{AddsOp};
 use order::ListAnswer;
 use store::Found;
@@ -24,7 +24,7 @@ use store::Gathered;
 pub fn fresh(store: &mut [u8]) -> u8
     ensures { λ r. ⌜ Freshened 512 (now (store .entry)) (now (store .exit)) r ⌝ }
 {
-    store::fresh(store, 512)
+    store::make_fresh(store, 512)
 }
 
 // Whether digest, kind, member and list have the right shape.
@@ -160,7 +160,7 @@ fn mark_slots(places: &[u16], c: usize, marks: &mut [u8])
 // Takes the mark from each of the first n places that the other marks have.
 fn unmark(marks: &mut [u8], other: &[u8], n: usize)
     requires { ⌜ (n ≤ length (now marks)) × (n ≤ length (now other)) ⌝ }
-    ensures { λ r. ⌜ Painted (Set (now (other .entry)) n) 0 (now (marks .entry)) (now (marks .exit)) ⌝ }
+    ensures { λ r. ⌜ Painted (MarkSet (now (other .entry)) n) 0 (now (marks .entry)) (now (marks .exit)) ⌝ }
 {
     let mut i: usize = 0;
     while i < n {
@@ -188,20 +188,30 @@ fn mark_passed(store: &[u8], places: &[u16], c: usize, marks: &mut [u8], chainab
 }
 
 // Writes the updates that an operation of this kind, with its predecessors in the first c slots, makes chainable, if there is room.
-fn list_passed(store: &[u8], kind: u8, places: &[u16], c: usize, out: &mut [u8]) -> ListAnswer
-    requires { ⌜ Ready (now store) 512 ⌝ }
+fn list_passed(
+    store: &[u8],
+    kind: u8,
+    places: &[u16],
+    c: usize,
+    marks: &mut [u8],
+    chainable: &mut [u8],
+    order: &mut [u16],
+    out: &mut [u8],
+) -> ListAnswer
+    requires { ⌜ Ready (now store) (length (now marks)) ⌝ }
+    requires { ⌜ (countOf (now store) ≤ length (now chainable)) × (countOf (now store) ≤ length (now order)) ⌝ }
     requires { ⌜ c ≤ length (now places) ⌝ }
     requires { ⌜ ((k : ℕ) → k < c → getD (now places) k 0 < countOf (now store)) ⌝ }
-    ensures { λ r. ⌜ Listed [] (Made (now (store .entry)) (now (places .entry)) c kind) (now (out .entry)) (now (out .exit)) (r .number) (r .count) ⌝ }
+    ensures { λ r. ⌜ Listed [] (Made (now (store .entry)) (now (places .entry)) c kind) (now (out .entry)) (now (out .exit)) (r .number) (r .count) × Worked (now (store .entry)) (now (places .entry)) c kind (now (marks .entry)) (now (marks .exit)) (now (chainable .entry)) (now (chainable .exit)) (now (order .entry)) (now (order .exit)) ⌝ }
 {
-    let mut marks = [0u8; 512];
-    let mut chainable = [0u8; 512];
-    let mut order = [0u16; 512];
     if kind == 2 {
-        mark_passed(store, places, c, &mut marks, &mut chainable);
-        return order::write_set(store, &marks, &mut order, out);
+        mark_passed(store, places, c, marks, chainable);
+        return order::write_set(store, marks, order, out);
     }
-    order::write_set(store, &marks, &mut order, out)
+    ListAnswer {
+        number: 0,
+        count: 0,
+    }
 }
 
 pub struct Tried {
@@ -211,7 +221,7 @@ pub struct Tried {
     pub count: usize,
 }
 
-// What admission would answer, and the places of the predecessors; only the output and the work places are written.
+// What admission would answer, and the places of the predecessors; only the output and the work arrays are written.
 fn trial(
     store: &[u8],
     digest: &[u8],
@@ -219,10 +229,14 @@ fn trial(
     member: &[u8],
     predecessors: &[u8],
     places: &mut [u16],
+    marks: &mut [u8],
+    chainable: &mut [u8],
+    order: &mut [u16],
     out: &mut [u8],
 ) -> Tried
     requires { ⌜ 16 ≤ length (now places) ⌝ }
-    ensures { λ r. ⌜ Tries (now (store .entry)) (now (digest .entry)) kind (now (member .entry)) (now (predecessors .entry)) (now (places .entry)) (now (places .exit)) (now (out .entry)) (now (out .exit)) (r .number) (r .known) (r .slots) (r .count) ⌝ }
+    requires { ⌜ (512 ≤ length (now marks)) × (512 ≤ length (now chainable)) × (512 ≤ length (now order)) ⌝ }
+    ensures { λ r. ⌜ Tries (now (store .entry)) (now (digest .entry)) kind (now (member .entry)) (now (predecessors .entry)) (now (places .entry)) (now (places .exit)) (now (out .entry)) (now (out .exit)) (r .number) (r .known) (r .slots) (r .count) × WorkedFor (now (store .entry)) (now (digest .entry)) kind (now (member .entry)) (now (predecessors .entry)) (now (places .exit)) (r .known) (r .slots) (now (marks .entry)) (now (marks .exit)) (now (chainable .entry)) (now (chainable .exit)) (now (order .entry)) (now (order .exit)) ⌝ }
 {
     let offered = offer(store, digest, kind, member, predecessors, places);
     if offered.number != 0 {
@@ -241,7 +255,16 @@ fn trial(
             count: 0,
         };
     }
-    let listed = list_passed(store, kind, places, offered.slots, out);
+    let listed = list_passed(
+        store,
+        kind,
+        places,
+        offered.slots,
+        marks,
+        chainable,
+        order,
+        out,
+    );
     Tried {
         number: listed.number,
         known: false,
@@ -268,6 +291,9 @@ pub fn add_op(
     ensures { λ r. ⌜ AddsOp (now (store .entry)) (now (digest .entry)) kind (now (member .entry)) (now (predecessors .entry)) (now (chainable .entry)) (now (store .exit)) (now (chainable .exit)) (r .number) (r .known) (r .count) ⌝ }
 {
     let mut places = [0u16; 16];
+    let mut marks = [0u8; 512];
+    let mut passed = [0u8; 512];
+    let mut order = [0u16; 512];
     let tried = trial(
         store,
         digest,
@@ -275,6 +301,9 @@ pub fn add_op(
         member,
         predecessors,
         &mut places,
+        &mut marks,
+        &mut passed,
+        &mut order,
         chainable,
     );
     if tried.number != 0 {

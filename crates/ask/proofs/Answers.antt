@@ -26,20 +26,20 @@ use Rattle.store.specs.Sound.{Sound}
 use Rattle.digest.specs.Lists.{nth}
 use Rattle.refusal.proofs.Refusals.{tested-done, tested-none, digest-whole}
 use Rattle.refusal.specs.Damage.{Damaged, Tested}
-use Rattle.walk.specs.Held.{Sized, Missing}
+use Rattle.walk.specs.Held.{Sized, UnheldAmong}
 use Rattle.walk.specs.Marks.{Ready}
 use Rattle.walk.proofs.Painting.{large-ready}
 use Rattle.walk.proofs.Places.{held-at, op-here}
 use Rattle.walk.proofs.Told.{mark-on, on-mark}
 
 -- a digest and a store of which a test refuses nothing
-pub record Passed (s d : List ℕ) : Type 0 where
+pub record DigestPassed (s d : List ℕ) : Type 0 where
   pub done : First (digestRefusals (Damaged s) d) 0
   pub none : None (digestRefusals (Damaged s) d)
   pub ready : Ready s 512
   pub whole : OneDigest d
 
-pub digest-passed : (s d : List ℕ) {r : ℕ} → Tested (digestRefusals (Damaged s) d) (Sound limits s) r → r ≡ 0 → Passed s d
+pub digest-passed : (s d : List ℕ) {r : ℕ} → Tested (digestRefusals (Damaged s) d) (Sound limits s) r → r ≡ 0 → DigestPassed s d
 digest-passed s d t e =
     let n = tested-none (omega arith) e t in
     record { done = tested-done t e; none = n; ready = large-ready (t .passed e); whole = digest-whole (Damaged s) d n }
@@ -67,7 +67,7 @@ pub mark-says : {P : Type 0} {m : ℕ} → Mark P m → Says (eqb m 1) P
 mark-says {P} {m} k = says-same (eqb m 1) (mark-on k) (on-mark k) (says-equal m 1)
 
 -- none missing, all held
-pub missing-says : {s l : List ℕ} {r : ℕ} → Sized (Missing s l (length l / 32)) r → Says (eqb r 0) (AllHeld (opsOf s) (digestsOf l))
+pub missing-says : {s l : List ℕ} {r : ℕ} → Sized (UnheldAmong s l (length l / 32)) r → Says (eqb r 0) (AllHeld (opsOf s) (digestsOf l))
 missing-says {s} {l} {r} w = says-same (eqb r 0) into (λ a. back a (w .members) (w .all .into) (w .counted)) (says-equal r 0)
   where
     none : r ≡ 0 → (xs : List ℕ) → length xs ≡ r → (d : ℕ) → ¬ (d ∈ xs)
@@ -83,7 +83,7 @@ missing-says {s} {l} {r} w = says-same (eqb r 0) into (λ a. back a (w .members)
             let t = in-row 0 (length l / 32) (nth l) d m in
             absurd (none e (w .members) (w .counted) d (w .all .back d (record { among = record { place = t .0; within = t .1; there = t .2 }; lacks = n })))
 
-    back : AllHeld (opsOf s) (digestsOf l) → (xs : List ℕ) → ((d : ℕ) → d ∈ xs → Missing s l (length l / 32) d) → length xs ≡ r → r ≡ 0
+    back : AllHeld (opsOf s) (digestsOf l) → (xs : List ℕ) → ((d : ℕ) → d ∈ xs → UnheldAmong s l (length l / 32) d) → length xs ≡ r → r ≡ 0
     back a [] f q = sym q
     back a (x ∷ xs) f q =
         let k = f x (List·Memᴰ·head refl) in

@@ -145,7 +145,7 @@ pub fn has_single_head(store: &[u8]) -> YesNo
         };
     }
     let mut marks = [0u8; 512];
-    walk::heads(store, &mut marks);
+    walk::mark_heads(store, &mut marks);
     YesNo {
         number: 0,
         yes: one_mark(&marks, store::count(store)),

@@ -129,7 +129,7 @@ fn put_listing(s: &mut [u8], number: usize, list: &[u8], n: usize) -> u8 {
 
 // 512 operations.
 fn full(s: &mut [u8]) {
-    say(b"fresh: ", store::fresh(s, 512) as u64);
+    say(b"fresh: ", store::make_fresh(s, 512) as u64);
     say(b"sound: ", sound(s) as u64);
     say(b"operation 513: ", fill(s) as u64);
     say(
@@ -141,7 +141,7 @@ fn full(s: &mut [u8]) {
 
 // 16 predecessors.
 fn slots(s: &mut [u8], list: &[u8]) {
-    say(b"fresh: ", store::fresh(s, 512) as u64);
+    say(b"fresh: ", store::make_fresh(s, 512) as u64);
     say(b"17 adds: ", starts(s, 17) as u64);
     say(b"17 predecessors: ", put_listing(s, 20, list, 17) as u64);
     say(b"16 predecessors: ", put_listing(s, 20, list, 16) as u64);

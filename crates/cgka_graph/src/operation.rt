@@ -17,4 +17,5 @@ pub use ask::is_chainable;
 pub use lists::children_of;
 pub use lists::nearest_update_ancestors;
 pub use lists::predecessors_for;
+pub use merging::merge;
 pub use order::ListAnswer;

@@ -15,13 +15,13 @@ use Rattle.rules.specs.Lists.{_∈_}
 use Rattle.rules.specs.Log.{choose}
 use Rattle.rules.proofs.Bytes.{row-in, in-row}
 use Rattle.rules.proofs.Insertion.{Inserts, inserted-order, inserted-into, inserted-back}
-use Rattle.digest.specs.Lists.{nextAt, nth, Rising, Among, Inserted, Ordered, none, more}
+use Rattle.digest.specs.Lists.{nextAt, nth, Unfalling, Among, Inserted, Ordered, none, more}
 use Rattle.digest.specs.Writes.{Copied}
 use Rattle.digest.specs.declared.Cursor.{Cursor}
 use Rattle.digest.specs.declared.Next.the-variants.{Digest, Done}
 use Rattle.digest.proofs.Writing.{copied-number, written-number}
 
-pub rising-le : (s : List ℕ) (n : ℕ) → Rising s n → (i j : ℕ) → i ≤ j → j < n → nth s i ≤ nth s j
+pub rising-le : (s : List ℕ) (n : ℕ) → Unfalling s n → (i j : ℕ) → i ≤ j → j < n → nth s i ≤ nth s j
 rising-le s n r i j h l = go (ℕ-discrete i j)
   where
     go : Dec (i ≡ j) → nth s i ≤ nth s j
@@ -39,10 +39,10 @@ pub halved-all : (s : List ℕ) (n x : ℕ) → Halved s n x 0 n
 halved-all s n x = record { order = omega arith; within = omega arith; below = λ k h. absurd (omega arith); above = λ k h l. absurd (omega arith) }
 
 module _ {s : List ℕ} {n x low high : ℕ} (H : Halved s n x low high) where
-  pub halved-up : (m : ℕ) → Rising s n → m < high → nth s m < x → Halved s n x (m + 1) high
+  pub halved-up : (m : ℕ) → Unfalling s n → m < high → nth s m < x → Halved s n x (m + 1) high
   halved-up m r h l = record { order = omega arith; within = H .within; below = λ k b. omega (arith, rising-le s n r k m (omega arith) (omega arith)); above = H .above }
 
-  pub halved-down : (m : ℕ) → Rising s n → low ≤ m → m < high → x < nth s m → Halved s n x low m
+  pub halved-down : (m : ℕ) → Unfalling s n → low ≤ m → m < high → x < nth s m → Halved s n x low m
   halved-down m r g h l = record { order = g; within = omega arith; below = H .below; above = λ k b w. omega (arith, rising-le s n r m k b w) }
 
   pub halved-none : high ≤ low → ¬ Among s n x
@@ -87,7 +87,7 @@ moved-more {s} {t} {u} {n} {j} {x} M p g C =
     over k l h (no x) = M .over k (omega arith) l
 
 -- place j is filled with a digest that is not below the one before it
-pub inserted : {s t u d : List ℕ} {n j at : ℕ} → Rising s n → Moved s t n j (numberAt d at 32) → (0 < j → nth t (j - 1) ≤ numberAt d at 32) → Copied t u (32 * j) d at 32 → Inserted s u n (numberAt d at 32)
+pub inserted : {s t u d : List ℕ} {n j at : ℕ} → Unfalling s n → Moved s t n j (numberAt d at 32) → (0 < j → nth t (j - 1) ≤ numberAt d at 32) → Copied t u (32 * j) d at 32 → Inserted s u n (numberAt d at 32)
 inserted {s} {t} {u} {d} {n} {j} {at} r M b C =
     record {
       size = C .written .size ∙ M .size;
@@ -120,7 +120,7 @@ module _ {s t : List ℕ} {n x : ℕ} (I : Inserted s t n x) where
   inserts : Inserts (nth s) (nth t) n (I .slot) x
   inserts = record { within = I .within; low = I .low; here = I .here; high = I .high }
 
-  inserted-rising : Rising s n → Rising t (n + 1)
+  inserted-rising : Unfalling s n → Unfalling t (n + 1)
   inserted-rising r = inserted-order inserts _≤_ r (I .under) (λ k h l. omega (arith, I .over k h l))
 
   among-into : {y : ℕ} → Among t (n + 1) y → Among s n y ⊎ (y ≡ x)
@@ -135,12 +135,12 @@ module _ {s t : List ℕ} {n x : ℕ} (I : Inserted s t n x) where
   among-back (inr e) = record { place = I .slot; within = omega (arith, I .within); there = I .here ∙ sym e }
 
 -- the first n digests of t are the first n of l, ascending
-pub record Sorted (t l : List ℕ) (n : ℕ) : Type 0 where
-  pub rising : Rising t n
+pub record InOrder (t l : List ℕ) (n : ℕ) : Type 0 where
+  pub rising : Unfalling t n
   pub into : (x : ℕ) → Among t n x → Among l n x
   pub back : (x : ℕ) → Among l n x → Among t n x
 
-sorted-more : {s t l : List ℕ} {n : ℕ} → Sorted s l n → Inserted s t n (nth l n) → Sorted t l (n + 1)
+sorted-more : {s t l : List ℕ} {n : ℕ} → InOrder s l n → Inserted s t n (nth l n) → InOrder t l (n + 1)
 sorted-more {s} {t} {l} {n} S I = record { rising = inserted-rising I (S .rising); into = λ x a. into x (among-into I a); back = λ x a. among-back I (back x (among-split a)) }
   where
     into : (x : ℕ) → Among s n x ⊎ (x ≡ nth l n) → Among l (n + 1) x
@@ -151,7 +151,7 @@ sorted-more {s} {t} {l} {n} S I = record { rising = inserted-rising I (S .rising
     back x (inl a) = inl (S .back x a)
     back x (inr e) = inr (sym e)
 
-pub ordered-sorted : {s l t : List ℕ} {n : ℕ} → Ordered s l t n → Sorted t l n
+pub ordered-sorted : {s l t : List ℕ} {n : ℕ} → Ordered s l t n → InOrder t l n
 ordered-sorted none = record { rising = λ i j h l. absurd (omega arith); into = λ x a. absurd (omega (arith, a .within)); back = λ x a. absurd (omega (arith, a .within)) }
 ordered-sorted (more O I) = sorted-more (ordered-sorted O) I
 

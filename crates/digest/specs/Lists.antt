@@ -20,8 +20,8 @@ abbrev pub nth : List ℕ → ℕ → ℕ
 nth s k = numberAt s (32 * k) 32
 
 -- the first n digests of s do not fall
-abbrev pub Rising : List ℕ → ℕ → Type 0
-Rising s n = (i j : ℕ) → i < j → j < n → nth s i ≤ nth s j
+abbrev pub Unfalling : List ℕ → ℕ → Type 0
+Unfalling s n = (i j : ℕ) → i < j → j < n → nth s i ≤ nth s j
 
 -- x is one of the first n digests of s
 pub record Among (s : List ℕ) (n x : ℕ) : Type 0 where

@@ -2,54 +2,36 @@
 -- Assumes nothing.
 use Prim.Native.Nat.{ℕ, _+_, _*_, _≤_, _<_}
 use native.Mathlib.Omega.{arith}
-use native.Mathlib.Decide.{ℕ-discrete}
 use mathlib.Core.Path.{_≡_, refl, sym, _∙_, ap, subst}
 use mathlib.Core.List.{List, []}
-use lib.ListN.{length, getD, set, length-set}
-use lib.Seq.{getD-set-same, getD-set-other}
+use lib.ListN.{length, getD}
 use Rattle.rules.specs.Answers.{Put, Listed}
 use Rattle.rules.specs.Bytes.{row}
 use Rattle.rules.specs.Graph.{Held, Child}
 use Rattle.rules.specs.Lists.{_∈_, SetOf}
 use Rattle.rules.proofs.Answers.{listed-past, listed-whole, listed-short}
-use Rattle.rules.proofs.Bytes.{row-length, row-same}
+use Rattle.rules.proofs.Bytes.{row-same}
 use Rattle.rules.proofs.First.{None}
 use Rattle.rules.proofs.Formed.{closed}
 use Rattle.store.specs.Layout.{countOf, digestAt, predsAt, predAt, opOf, opsOf}
 use Rattle.store.proofs.Ops.{sound-checked, checked-proper}
-use Rattle.walk.specs.Marks.{Ready, Tells}
+use Rattle.walk.specs.Marks.{Ready, Tells, Front}
 use Rattle.walk.proofs.Places.{ready-formed, op-at, op-here}
 use Rattle.order.specs.Sorted.{digestsAt, WroteMarked}
 use Rattle.order.specs.declared.ListAnswer.{ListAnswer}
 use Rattle.order.proofs.Ordered.{wrote-listed}
-use Rattle.lists.specs.Places.{PlacesOf}
+use Rattle.order.proofs.Sorting.{digests-length}
 
 -- the held digests that marks tell of, where nothing is refused
 pub marked-listed : {rs : List (ℕ × Type 0)} {P : ℕ → Type 0} {s m h t o o′ : List ℕ} {r : ℕ} {a : ListAnswer} → None rs → Ready s r → Tells s P m → ((x : ℕ) → P x → Held (opsOf s) x) → WroteMarked s [] m h t o o′ a → Listed rs P o o′ (a .number) (a .count)
 marked-listed n R T H w = listed-past n (wrote-listed R (w .sorted) T H (λ j. refl) (w .wrote))
-
--- the places of predecessors, one by one
-pub places-none : (s : List ℕ) (i : ℕ) (h : List ℕ) → PlacesOf s i h h 0
-places-none s i h = record { size = refl; there = λ k l. absurd (omega arith); rest = λ k l. refl }
-
-pub places-more : {s h h′ : List ℕ} {i k : ℕ} → k < length h′ → PlacesOf s i h h′ k → PlacesOf s i h (set h′ k (predAt s i k)) (k + 1)
-places-more {s} {h} {h′} {i} {k} b w =
-    record {
-      size = length-set h′ k (predAt s i k) ∙ w .size;
-      there = λ j l. go j l (ℕ-discrete j k);
-      rest = λ j l. getD-set-other h′ k j (predAt s i k) 0 (λ e. omega arith) ∙ w .rest j (omega arith);
-    }
-  where
-    go : (j : ℕ) → j < k + 1 → Dec (j ≡ k) → getD (set h′ k (predAt s i k)) j 0 ≡ predAt s i j
-    go j l (yes e) = rw e (getD-set-same h′ k (predAt s i k) 0 b)
-    go j l (no n) = getD-set-other h′ k j (predAt s i k) 0 n ∙ w .there j (omega arith)
 
 module _ {s : List ℕ} {r : ℕ} (R : Ready s r) where
   -- nothing lists a digest that isn't held
   pub unlisted : {d : ℕ} → ¬ Held (opsOf s) d → (x : ℕ) → ¬ Child (opsOf s) d x
   unlisted n x k = n (closed (ready-formed R) (k .stands) (k .lists))
 
-  module _ {i d c : ℕ} {h h′ : List ℕ} (l : i < countOf s) (e : digestAt s i ≡ d) (q : c ≡ predsAt s i) (W : PlacesOf s i h h′ c) where
+  module _ {i d c : ℕ} {h h′ : List ℕ} (l : i < countOf s) (e : digestAt s i ≡ d) (q : c ≡ predsAt s i) (W : Front (predAt s i) h h′ c) where
     digests-preds : digestsAt s h′ c ≡ opOf s i .preds
     digests-preds = row-same c (λ k. digestAt s (getD h′ k 0)) (λ k. digestAt s (predAt s i k)) (λ k b. ap (digestAt s) (W .there k b)) ∙ ap (λ n. row n (λ k. digestAt s (predAt s i k))) q
 
@@ -63,11 +45,8 @@ module _ {s : List ℕ} {r : ℕ} (R : Ready s r) where
           back = λ p k. subst (λ o. p ∈ o .preds) (op-here R i l (k .stands) (k .named ∙ sym e)) (k .lists);
         })
 
-    digests-size : length (digestsAt s h′ c) ≡ c
-    digests-size = row-length c (λ k. digestAt s (getD h′ k 0))
-
     pub preds-whole : {o o′ : List ℕ} → 32 * c ≤ length o → Put (digestsAt s h′ c) o o′ → Listed [] (λ p. Child (opsOf s) p d) o o′ 0 c
-    preds-whole b p = rw digests-size at (listed-whole preds-set (omega (arith, digests-size)) p)
+    preds-whole b p = rw (digests-length s h′ c) at (listed-whole preds-set (omega (arith, digests-length s h′ c)) p)
 
     pub preds-short : {o : List ℕ} → length o < 32 * c → Listed [] (λ p. Child (opsOf s) p d) o o 9 0
-    preds-short b = listed-short preds-set (omega (arith, digests-size))
+    preds-short b = listed-short preds-set (omega (arith, digests-length s h′ c))

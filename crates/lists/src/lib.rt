@@ -4,10 +4,9 @@ ghost use mathlib.Core.Path.{_≡_};
 ghost use lib.ListN.{length};
 ghost use Rattle.rules.specs.Table.{mostListed};
 ghost use Rattle.rules.specs.Calls.{Heads, NearestUpdateAncestors, PredecessorsFor, ChildrenOf};
-ghost use Rattle.store.specs.Layout.{countOf, predsAt, opsOf};
+ghost use Rattle.store.specs.Layout.{countOf, predsAt, predAt, opsOf};
 ghost use Rattle.refusal.specs.Damage.{Damaged};
-ghost use Rattle.walk.specs.Marks.{Ready};
-ghost use Rattle.lists.specs.Places.{PlacesOf};
+ghost use Rattle.walk.specs.Marks.{Ready, Front};
 use order::ListAnswer;
 use store::Found;
 
@@ -24,7 +23,7 @@ pub fn heads(store: &[u8], out: &mut [u8]) -> ListAnswer
     }
     let mut marks = [0u8; 512];
     let mut places = [0u16; 512];
-    walk::heads(store, &mut marks);
+    walk::mark_heads(store, &mut marks);
     order::write_set(store, &marks, &mut places, out)
 }
 
@@ -73,7 +72,7 @@ pub fn children_of(store: &[u8], digest: &[u8], out: &mut [u8]) -> ListAnswer
 fn copy_preds(store: &[u8], i: usize, places: &mut [u16]) -> usize
     requires { ⌜ Ready (now store) (countOf (now store)) ⌝ }
     requires { ⌜ (i < countOf (now store)) × (16 ≤ length (now places)) ⌝ }
-    ensures { λ r. ⌜ (r ≡ predsAt (now (store .entry)) i) × PlacesOf (now (store .entry)) i (now (places .entry)) (now (places .exit)) r ⌝ }
+    ensures { λ r. ⌜ (r ≡ predsAt (now (store .entry)) i) × Front (predAt (now (store .entry)) i) (now (places .entry)) (now (places .exit)) r ⌝ }
 {
     let c = store::preds_at(store, i);
     let mut k: usize = 0;

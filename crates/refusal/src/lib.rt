@@ -1,7 +1,7 @@
 // The refusals that come first in every call: the number of the first that holds, 0 where none does.
 ghost use mathlib.Core.Logic.{_⊎_};
 ghost use Rattle.rules.specs.Table.{limits, mostListed};
-ghost use Rattle.rules.specs.Small.{storeRefusals, digestRefusals, listRefusals, memberRefusals};
+ghost use Rattle.rules.specs.Small.{storeRefusals, digestRefusals, listRefusals, memberRefusals, listsRefusals, listKindRefusals};
 ghost use Rattle.store.specs.Sound.{Sound};
 ghost use Rattle.refusal.specs.Damage.{Damaged, Tested};
 
@@ -47,6 +47,41 @@ pub fn of_member(store: &[u8], member: &[u8], digest: &[u8]) -> u8
     }
     if digest.len() != 32 {
         return 1;
+    }
+    of_store(store)
+}
+
+// A store and two lists of digests.
+pub fn of_lists(store: &[u8], first: &[u8], second: &[u8]) -> u8
+    ensures { λ r. ⌜ Tested (listsRefusals mostListed (Damaged (now (store .entry))) (now (first .entry)) (now (second .entry))) (Sound limits (now (store .entry))) r ⌝ }
+{
+    if first.len() % 32 != 0 {
+        return 1;
+    }
+    if second.len() % 32 != 0 {
+        return 1;
+    }
+    if 512 < first.len() / 32 {
+        return 2;
+    }
+    if 512 < second.len() / 32 {
+        return 2;
+    }
+    of_store(store)
+}
+
+// A store, a list of digests and a kind.
+pub fn of_list_and_kind(store: &[u8], list: &[u8], kind: u8) -> u8
+    ensures { λ r. ⌜ Tested (listKindRefusals mostListed (Damaged (now (store .entry))) (now (list .entry)) kind) (Sound limits (now (store .entry))) r ⌝ }
+{
+    if 2 < kind {
+        return 1;
+    }
+    if list.len() % 32 != 0 {
+        return 1;
+    }
+    if 512 < list.len() / 32 {
+        return 2;
     }
     of_store(store)
 }

@@ -54,6 +54,14 @@ zero-bytes s p (suc n) h j l = go (ℕ-discrete j n) (λ e l′. zero-bytes s p 
     go (yes e) r = rw e (omega arith)
     go (no x) r = r (omega arith) (omega arith)
 
+pub row-none : {A : Type 0} (f : ℕ → A) → row 0 f ≡ []
+unfolding row
+row-none f = refl
+
+pub row-more : {A : Type 0} (n : ℕ) (f : ℕ → A) → row (n + 1) f ≡ row n f ++ (f n ∷ [])
+unfolding row
+row-more n f = rw add-one refl
+
 pub row-length : {A : Type 0} (n : ℕ) (f : ℕ → A) → length (row n f) ≡ n
 unfolding row
 row-length zero f = refl

@@ -14,7 +14,7 @@ use Rattle.rules.specs.Filter.{Observed, filterRefusals}
 use Rattle.rules.specs.First.{First}
 use Rattle.rules.specs.Graph.{Op, Held, Unheld, Child, Head, AllHeads}
 use Rattle.rules.specs.Lists.{Alike}
-use Rattle.rules.specs.Question.{listed, kind, SameBatch, questionRefusals}
+use Rattle.rules.specs.Question.{listed, kind, SameBatch, listedRefusals, kindRefusals}
 use Rattle.rules.specs.Small.{AllHeld, SingleHead, AddBefore, Added, HeldIn, storeRefusals, digestRefusals, heldRefusals, listRefusals, memberRefusals}
 use Rattle.rules.specs.Updates.{Nearest, Chainable}
 use Rattle.rules.proofs.Answers.{listed-same, answered-same, valued-unique, valued-same, parted-unique, parted-same, batches-answered-unique, batches-answered-same}
@@ -71,8 +71,11 @@ module _ {D D′ : Type 0} {G H : List Op} (w : Twins D D′ G H) where
       later : ¬ D → ((¬ AllHeads G (digestsOf p)) × Unheld G (digestsOf q)) ↔ ((¬ AllHeads H (digestsOf p)) × Unheld H (digestsOf q))
       later n = later-iff (w .same n) (digestsOf p) (digestsOf q)
 
-  question-matched : (shape many : Type 0) (p : List ℕ) → Matched (questionRefusals shape many D G p) (questionRefusals shape many D′ H p)
-  question-matched shape many p = search (matching, w .damage, w .same) depth 15
+  listed-matched : (most : ℕ) (p l : List ℕ) → Matched (listedRefusals most D G p l) (listedRefusals most D′ H p l)
+  listed-matched most p l = search (matching, w .damage, w .same) depth 15
+
+  kind-matched : (most : ℕ) (p : List ℕ) (k : ℕ) → Matched (kindRefusals most D G p k) (kindRefusals most D′ H p k)
+  kind-matched most p k = search (matching, w .damage, w .same) depth 15
 
   batches-matched : (most : ℕ) (l : List ℕ) → Matched (batchesForHeadsRefusals most D G l) (batchesForHeadsRefusals most D′ H l)
   batches-matched most l = search (matching, w .damage, w .same) depth 15
@@ -119,10 +122,10 @@ module _ {D D′ : Type 0} {G H : List Op} (w : Twins D D′ G H) where
   has-add-before-same m d = answered-same (omega arith) (member-matched w m d) (λ z. yes-no (λ A. AddBefore A (digestOf m) (digestOf d)) (λ A B e. add-before-in (e .into)) (z .1 .0))
 
   pub batch-has-listed-same : (most : ℕ) (p l : List ℕ) {n : ℕ} {b : Bool} → BatchHasListed most D G p l n b → BatchHasListed most D′ H p l n b
-  batch-has-listed-same most p l = answered-same (omega arith) (question-matched w _ _ p) (λ z. yes-no (λ A. SameBatch A (digestsOf p) (listed (digestsOf l))) (λ A B e. same-batch-same e) (z .1 .1 .0))
+  batch-has-listed-same most p l = answered-same (omega arith) (listed-matched w most p l) (λ z. yes-no (λ A. SameBatch A (digestsOf p) (listed (digestsOf l))) (λ A B e. same-batch-same e) (z .1 .1 .0))
 
   pub batch-has-kind-same : (most : ℕ) (p : List ℕ) (k : ℕ) {n : ℕ} {b : Bool} → BatchHasKind most D G p k n b → BatchHasKind most D′ H p k n b
-  batch-has-kind-same most p k = answered-same (omega arith) (question-matched w _ _ p) (λ z. yes-no (λ A. SameBatch A (digestsOf p) (kind k)) (λ A B e. same-batch-same e) (z .1 .1 .0))
+  batch-has-kind-same most p k = answered-same (omega arith) (kind-matched w most p k) (λ z. yes-no (λ A. SameBatch A (digestsOf p) (kind k)) (λ A B e. same-batch-same e) (z .1 .1 .0))
 
   pub batches-for-heads-same : (most : ℕ) (l : List ℕ) {s t u v : List ℕ} {n o b : ℕ} → BatchesForHeads most D G l s t u v n o b → BatchesForHeads most D′ H l s t u v n o b
   batches-for-heads-same most l = batches-answered-same (omega arith) (batches-matched w most l) (λ z. (w .same (z .1 .1 .0), alike-refl (digestsOf l)))

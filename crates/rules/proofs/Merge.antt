@@ -29,6 +29,17 @@ missing-unique (has h a) (lacks k b) = absurd (k h)
 missing-unique (lacks h a) (has k b) = absurd (h k)
 missing-unique (lacks {o = o} h a) (lacks k b) = ap (λ M. o ∷ M) (missing-unique a b)
 
+-- one operation more of the second
+pub missing-has : {G H M : List Op} (o : Op) → Missing G H M → Held G (o .digest) → Missing G (H ++ (o ∷ [])) M
+missing-has o no-more h = has h no-more
+missing-has o (has x m) h = has x (missing-has o m h)
+missing-has o (lacks x m) h = lacks x (missing-has o m h)
+
+pub missing-lacks : {G H M : List Op} (o : Op) → Missing G H M → ¬ Held G (o .digest) → Missing G (H ++ (o ∷ [])) (M ++ (o ∷ []))
+missing-lacks o no-more n = lacks n no-more
+missing-lacks o (has x m) n = has x (missing-lacks o m n)
+missing-lacks o (lacks x m) n = lacks x (missing-lacks o m n)
+
 pub union-unique : {G H K M : List Op} → Union G H K → Union G H M → K ≡ M
 union-unique {G} p q = p .joined ∙ ap (λ M. G ++ M) (missing-unique (p .missing) (q .missing)) ∙ sym (q .joined)
 

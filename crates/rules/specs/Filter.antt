@@ -1,12 +1,11 @@
 -- The causal filter.
 -- Assumes nothing.
 use Prim.Native.Nat.{ℕ}
-use mathlib.Core.Logic.{_⊎_}
-use mathlib.Core.List.{List, [], _∷_}
+use mathlib.Core.List.{List, [], _∷_, _++_}
 use Rattle.rules.specs.Lists.{_∈_}
 use Rattle.rules.specs.Bytes.{digestsOf}
 use Rattle.rules.specs.Graph.{Op, Unheld, AllHeads, InPast}
-use Rattle.rules.specs.Table.{WholeDigests, Over}
+use Rattle.rules.specs.Small.{listsRefusals}
 
 -- a target that comes back: any, unchecked, if all heads are among the named; else one of the named or an ancestor of one
 pub data Observed (G : List Op) (named targets : List ℕ) (d : ℕ) : Type 0 where
@@ -15,10 +14,4 @@ pub data Observed (G : List Op) (named targets : List ℕ) (d : ℕ) : Type 0 wh
 
 -- for lent lists p of predecessors and t of targets
 abbrev pub filterRefusals : ℕ → Type 0 → List Op → List ℕ → List ℕ → List (ℕ × Type 0)
-filterRefusals most damaged G p t =
-    (1, (¬ WholeDigests p) ⊎ (¬ WholeDigests t))
-    ∷ (2, Over most p ⊎ Over most t)
-    ∷ (3, damaged)
-    ∷ (7, Unheld G (digestsOf p))
-    ∷ (7, (¬ AllHeads G (digestsOf p)) × Unheld G (digestsOf t))
-    ∷ []
+filterRefusals most damaged G p t = listsRefusals most damaged p t ++ ((7, Unheld G (digestsOf p)) ∷ (7, (¬ AllHeads G (digestsOf p)) × Unheld G (digestsOf t)) ∷ [])

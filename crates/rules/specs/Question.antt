@@ -1,14 +1,13 @@
 -- The batch question.
 -- Assumes nothing.
-use Prim.Native.Nat.{ℕ, _<_}
+use Prim.Native.Nat.{ℕ}
 use mathlib.Core.Path.{_≡_}
-use mathlib.Core.Logic.{_⊎_}
-use mathlib.Core.List.{List, [], _∷_}
+use mathlib.Core.List.{List, [], _∷_, _++_}
 use Rattle.rules.specs.Lists.{_∈_}
 use Rattle.rules.specs.Bytes.{digestsOf}
 use Rattle.rules.specs.Graph.{Op, Held, Unheld, Child, Head, AllHeads}
 use Rattle.rules.specs.Batches.{Sooner}
-use Rattle.rules.specs.Table.{WholeDigests, Over}
+use Rattle.rules.specs.Small.{listsRefusals, listKindRefusals}
 
 -- a question is one of the listed digests, or a kind
 pub data Question : Type 0 where
@@ -43,14 +42,14 @@ pub record SameBatch (G : List Op) (named : List ℕ) (q : Question) : Type 0 wh
   pub above : Sooner G waist (op .digest)
   pub matches : Matches q op
 
--- the refusals that both questions share, p the named predecessors
-abbrev pub questionRefusals : Type 0 → Type 0 → Type 0 → List Op → List ℕ → List (ℕ × Type 0)
-questionRefusals shape many damaged G p = (1, shape) ∷ (2, many) ∷ (3, damaged) ∷ (4, digestsOf p ≡ []) ∷ (7, Unheld G (digestsOf p)) ∷ []
+-- the refusals of both questions' own, p the named predecessors
+abbrev pub questionRefusals : List Op → List ℕ → List (ℕ × Type 0)
+questionRefusals G p = (4, digestsOf p ≡ []) ∷ (7, Unheld G (digestsOf p)) ∷ []
 
 -- a question with the list l
 abbrev pub listedRefusals : ℕ → Type 0 → List Op → List ℕ → List ℕ → List (ℕ × Type 0)
-listedRefusals most damaged G p l = questionRefusals ((¬ WholeDigests p) ⊎ (¬ WholeDigests l)) (Over most p ⊎ Over most l) damaged G p
+listedRefusals most damaged G p l = listsRefusals most damaged p l ++ questionRefusals G p
 
 -- a question with the kind k
 abbrev pub kindRefusals : ℕ → Type 0 → List Op → List ℕ → ℕ → List (ℕ × Type 0)
-kindRefusals most damaged G p k = questionRefusals ((¬ WholeDigests p) ⊎ (2 < k)) (Over most p) damaged G p
+kindRefusals most damaged G p k = listKindRefusals most damaged p k ++ questionRefusals G p

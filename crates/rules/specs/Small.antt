@@ -1,6 +1,6 @@
 -- The small questions.
 -- Assumes nothing.
-use Prim.Native.Nat.{ℕ}
+use Prim.Native.Nat.{ℕ, _<_}
 use mathlib.Core.Path.{_≡_}
 use mathlib.Core.Logic.{_⊎_}
 use mathlib.Core.List.{List, [], _∷_}
@@ -56,3 +56,11 @@ listRefusals most damaged l = (1, ¬ WholeDigests l) ∷ (2, Over most l) ∷ (3
 -- a member and a digest: add of a member at or before an operation
 abbrev pub memberRefusals : Type 0 → List ℕ → List ℕ → List (ℕ × Type 0)
 memberRefusals damaged m d = (1, (¬ OneDigest m) ⊎ (¬ OneDigest d)) ∷ (3, damaged) ∷ []
+
+-- two lists: causal filter, batch question with a list
+abbrev pub listsRefusals : ℕ → Type 0 → List ℕ → List ℕ → List (ℕ × Type 0)
+listsRefusals most damaged p l = (1, (¬ WholeDigests p) ⊎ (¬ WholeDigests l)) ∷ (2, Over most p ⊎ Over most l) ∷ (3, damaged) ∷ []
+
+-- a list and a kind: batch question with a kind
+abbrev pub listKindRefusals : ℕ → Type 0 → List ℕ → ℕ → List (ℕ × Type 0)
+listKindRefusals most damaged p k = (1, (¬ WholeDigests p) ⊎ (2 < k)) ∷ (2, Over most p) ∷ (3, damaged) ∷ []

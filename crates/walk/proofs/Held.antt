@@ -19,7 +19,7 @@ use Rattle.digest.proofs.Listing.{among-wider, among-last, among-split}
 use Rattle.rules.proofs.Answers.{says-same}
 use Rattle.rules.proofs.Bytes.{row-in, in-row}
 use Rattle.rules.proofs.Lists.{set-same, set-more}
-use Rattle.walk.specs.Held.{Sized, Missing, Wanted, MarkedAdd}
+use Rattle.walk.specs.Held.{Sized, UnheldAmong, Wanted, MarkedAdd}
 use Rattle.walk.specs.Marks.{Ready, Paint, hit, miss, Painted, Tells, Told}
 use Rattle.walk.specs.Passes.{Reached}
 use Rattle.walk.specs.declared.Pick.the-variants.{All}
@@ -30,17 +30,17 @@ use Rattle.walk.proofs.Told.{paint-hit, paint-miss, mark-on, on-mark, p
 sized-as : {P Q : ℕ → Type 0} {r : ℕ} → ((d : ℕ) → P d → Q d) → ((d : ℕ) → Q d → P d) → Sized P r → Sized Q r
 sized-as f g w = record { members = w .members; all = set-same (λ d. (f d, g d)) (w .all); counted = w .counted }
 
-pub missing-none : (s l : List ℕ) → Sized (Missing s l 0) 0
+pub missing-none : (s l : List ℕ) → Sized (UnheldAmong s l 0) 0
 missing-none s l = record { members = []; all = record { ascending = none; into = λ d m. absurd (List·Memᴰ·not-nil m); back = λ d x. absurd (omega (arith, x .among .within)) }; counted = refl }
 
 module _ {s : List ℕ} {r : ℕ} (R : Ready s r) (l : List ℕ) (k : ℕ) where
-  missing-wider : (d : ℕ) → Missing s l k d → Missing s l (k + 1) d
+  missing-wider : (d : ℕ) → UnheldAmong s l k d → UnheldAmong s l (k + 1) d
   missing-wider d x = record { among = among-wider (x .among); lacks = x .lacks }
 
   wanted-wider : (j : ℕ) → Wanted s l k j → Wanted s l (k + 1) j
   wanted-wider j x = record { below = x .below; among = among-wider (x .among) }
 
-  missing-split : (d : ℕ) (x : Missing s l (k + 1) d) → Among l k d ⊎ (nth l k ≡ d) → Missing s l k d ⊎ (d ≡ nth l k)
+  missing-split : (d : ℕ) (x : UnheldAmong s l (k + 1) d) → Among l k d ⊎ (nth l k ≡ d) → UnheldAmong s l k d ⊎ (d ≡ nth l k)
   missing-split d x (inl y) = inl (record { among = y; lacks = x .lacks })
   missing-split d x (inr e) = inr (sym e)
 
@@ -57,10 +57,10 @@ module _ {s : List ℕ} {r : ℕ} (R : Ready s r) (l : List ℕ) (k : ℕ) where
         back j x (inl y) = inl (record { below = x .below; among = y })
         back j x (inr q) = inr (one-place R j i (x .below) h (sym q ∙ sym e))
 
-    pub missing-held : {c : ℕ} → Sized (Missing s l k) c → Sized (Missing s l (k + 1)) c
+    pub missing-held : {c : ℕ} → Sized (UnheldAmong s l k) c → Sized (UnheldAmong s l (k + 1)) c
     missing-held w = sized-as missing-wider (λ d x. back d x (missing-split d x (among-split (x .among)))) w
       where
-        back : (d : ℕ) → Missing s l (k + 1) d → Missing s l k d ⊎ (d ≡ nth l k) → Missing s l k d
+        back : (d : ℕ) → UnheldAmong s l (k + 1) d → UnheldAmong s l k d ⊎ (d ≡ nth l k) → UnheldAmong s l k d
         back d x (inl y) = y
         back d x (inr q) = absurd (x .lacks (subst (Held (opsOf s)) (e ∙ sym q) (held-at R i h)))
 
@@ -76,19 +76,19 @@ module _ {s : List ℕ} {r : ℕ} (R : Ready s r) (l : List ℕ) (k : ℕ) where
     unheld : ¬ Held (opsOf s) (nth l k)
     unheld x = let p = place-of R (x .stands) in f (p .0) (p .1) (ap (λ o. o .digest) (p .2) ∙ x .named)
 
-    pub missing-again : {c : ℕ} → Among l k (nth l k) → Sized (Missing s l k) c → Sized (Missing s l (k + 1)) c
+    pub missing-again : {c : ℕ} → Among l k (nth l k) → Sized (UnheldAmong s l k) c → Sized (UnheldAmong s l (k + 1)) c
     missing-again y w = sized-as missing-wider (λ d x. back d x (missing-split d x (among-split (x .among)))) w
       where
-        back : (d : ℕ) → Missing s l (k + 1) d → Missing s l k d ⊎ (d ≡ nth l k) → Missing s l k d
+        back : (d : ℕ) → UnheldAmong s l (k + 1) d → UnheldAmong s l k d ⊎ (d ≡ nth l k) → UnheldAmong s l k d
         back d x (inl z) = z
         back d x (inr q) = record { among = subst (Among l k) (sym q) y; lacks = x .lacks }
 
-    pub missing-more : {c : ℕ} → ¬ Among l k (nth l k) → Sized (Missing s l k) c → Sized (Missing s l (k + 1)) (c + 1)
+    pub missing-more : {c : ℕ} → ¬ Among l k (nth l k) → Sized (UnheldAmong s l k) c → Sized (UnheldAmong s l (k + 1)) (c + 1)
     missing-more {c} n w =
         let t = set-more (nth l k) (w .all) (λ x. n (x .among)) in
         sized-as into (λ d x. missing-split d x (among-split (x .among))) (record { members = t .0; all = t .1; counted = omega (arith, t .2, w .counted) })
       where
-        into : (d : ℕ) → Missing s l k d ⊎ (d ≡ nth l k) → Missing s l (k + 1) d
+        into : (d : ℕ) → UnheldAmong s l k d ⊎ (d ≡ nth l k) → UnheldAmong s l (k + 1) d
         into d (inl x) = missing-wider d x
         into d (inr q) = record { among = among-last l k (sym q); lacks = λ x. unheld (subst (Held (opsOf s)) q x) }
 

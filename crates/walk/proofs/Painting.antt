@@ -13,7 +13,7 @@ use Rattle.rules.specs.Table.{Limits, limits}
 use Rattle.store.specs.Sound.{Roomy, Sound, Laid}
 use Rattle.rules.specs.Batches.{Mark}
 use Rattle.store.proofs.Ops.{sound-laid}
-use Rattle.walk.specs.Marks.{Ready, Paint, hit, miss, Painted}
+use Rattle.walk.specs.Marks.{Ready, Paint, hit, miss, Painted, Front}
 
 -- the same places, said otherwise
 pub paint-as : {P Q : Type 0} {v a b : ℕ} → (P → Q) → (Q → P) → Paint P v a b → Paint Q v a b
@@ -99,3 +99,19 @@ marking-more {P} {i} {v} {m} {m′} h x w =
     go : (j : ℕ) → j < i + 1 → Dec (j ≡ i) → Mark (P j) (getD (set m′ i v) j 0)
     go j l (yes e) = rw e (rw (getD-set-same m′ i v 0 h) x)
     go j l (no n) = rw (getD-set-other m′ i j v 0 n) (w .each j (omega arith))
+
+-- a front that grows by one
+pub front-none : (f : ℕ → ℕ) (h : List ℕ) → Front f h h 0
+front-none f h = record { size = refl; there = λ k l. absurd (omega arith); rest = λ k l. refl }
+
+pub front-more : (f : ℕ → ℕ) {h t : List ℕ} {k : ℕ} → k < length t → Front f h t k → Front f h (set t k (f k)) (k + 1)
+front-more f {h} {t} {k} b W =
+    record {
+      size = length-set t k (f k) ∙ W .size;
+      there = λ j l. go j l (ℕ-discrete j k);
+      rest = λ j l. getD-set-other t k j (f k) 0 (λ e. omega arith) ∙ W .rest j (omega arith);
+    }
+  where
+    go : (j : ℕ) → j < k + 1 → Dec (j ≡ k) → getD (set t k (f k)) j 0 ≡ f j
+    go j l (yes e) = rw e (getD-set-same t k (f k) 0 b)
+    go j l (no n) = getD-set-other t k j (f k) 0 n ∙ W .there j (omega arith)

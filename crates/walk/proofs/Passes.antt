@@ -9,7 +9,7 @@ use mathlib.Core.List.{List}
 use lib.ListN.{length, getD, set}
 use Rattle.store.specs.Layout.{countOf, kindAt, predAt}
 use Rattle.walk.specs.Marks.{Ready, Paint, hit, miss, Painted}
-use Rattle.walk.specs.Passes.{Picked, OneOf, Lists, Listed, Reached, start, step, Plain, Deepest}
+use Rattle.walk.specs.Passes.{Picked, OneOf, Lists, SomeLists, Reached, start, step, Plain, Deepest}
 use Rattle.walk.specs.declared.Pick.{Pick}
 use Rattle.walk.proofs.Painting.{painted-as, painted-two, painted-one, ready-early}
 
@@ -44,39 +44,39 @@ one-of-more f c {m} {m′} {v} h w = painted-as into back (painted-two w (painte
     back j a = pick j a (ℕ-discrete (a .nth) c)
 
 module _ {p : Pick} {s : List ℕ} {i : ℕ} where
-  listed-wider : (j : ℕ) → Listed p s i j → Listed p s (i + 1) j
+  listed-wider : (j : ℕ) → SomeLists p s i j → SomeLists p s (i + 1) j
   listed-wider j l = record { by = l .by; below = omega (arith, l .below); picked = l .picked; lists = l .lists }
 
-  listed-split : (j : ℕ) → Listed p s (i + 1) j → Listed p s i j ⊎ (Picked p s i × Lists s i j)
+  listed-split : (j : ℕ) → SomeLists p s (i + 1) j → SomeLists p s i j ⊎ (Picked p s i × Lists s i j)
   listed-split j l = go (ℕ-discrete (l .by) i)
     where
-      go : Dec (l .by ≡ i) → Listed p s i j ⊎ (Picked p s i × Lists s i j)
+      go : Dec (l .by ≡ i) → SomeLists p s i j ⊎ (Picked p s i × Lists s i j)
       go (yes e) = inr (rw e at (l .picked), rw e at (l .lists))
       go (no n) = inl (record { by = l .by; below = omega (arith, l .below, n); picked = l .picked; lists = l .lists })
 
   -- record i is picked, and what it lists gets the mark; or it isn't
-  pub listed-more : {m m′ u : List ℕ} {v : ℕ} → Picked p s i → Painted (Listed p s i) v m m′ → Painted (Lists s i) v m′ u → Painted (Listed p s (i + 1)) v m u
+  pub listed-more : {m m′ u : List ℕ} {v : ℕ} → Picked p s i → Painted (SomeLists p s i) v m m′ → Painted (Lists s i) v m′ u → Painted (SomeLists p s (i + 1)) v m u
   listed-more x w q = painted-as into back (painted-two w q)
     where
-      into : (j : ℕ) → Listed p s i j ⊎ Lists s i j → Listed p s (i + 1) j
+      into : (j : ℕ) → SomeLists p s i j ⊎ Lists s i j → SomeLists p s (i + 1) j
       into j (inl l) = listed-wider j l
       into j (inr l) = record { by = i; below = omega arith; picked = x; lists = l }
 
-      drop : (j : ℕ) → Listed p s i j ⊎ (Picked p s i × Lists s i j) → Listed p s i j ⊎ Lists s i j
+      drop : (j : ℕ) → SomeLists p s i j ⊎ (Picked p s i × Lists s i j) → SomeLists p s i j ⊎ Lists s i j
       drop j (inl l) = inl l
       drop j (inr l) = inr (l .1)
 
-      back : (j : ℕ) → Listed p s (i + 1) j → Listed p s i j ⊎ Lists s i j
+      back : (j : ℕ) → SomeLists p s (i + 1) j → SomeLists p s i j ⊎ Lists s i j
       back j l = drop j (listed-split j l)
 
-  pub listed-skip : {m m′ : List ℕ} {v : ℕ} → ¬ Picked p s i → Painted (Listed p s i) v m m′ → Painted (Listed p s (i + 1)) v m m′
+  pub listed-skip : {m m′ : List ℕ} {v : ℕ} → ¬ Picked p s i → Painted (SomeLists p s i) v m m′ → Painted (SomeLists p s (i + 1)) v m m′
   listed-skip x w = painted-as listed-wider back w
     where
-      drop : (j : ℕ) → Listed p s i j ⊎ (Picked p s i × Lists s i j) → Listed p s i j
+      drop : (j : ℕ) → SomeLists p s i j ⊎ (Picked p s i × Lists s i j) → SomeLists p s i j
       drop j (inl l) = l
       drop j (inr l) = absurd (x (l .0))
 
-      back : (j : ℕ) → Listed p s (i + 1) j → Listed p s i j
+      back : (j : ℕ) → SomeLists p s (i + 1) j → SomeLists p s i j
       back j l = drop j (listed-split j l)
 
 -- spreading: the records from i on are done

@@ -17,7 +17,7 @@ use Rattle.store.proofs.Ops.{no-preds}
 use Rattle.rules.proofs.Bytes.{row-in, in-row}
 use Rattle.rules.proofs.Past.{Reach, starts, steps, reach-past, past-reach, reach-met, met-reach}
 use Rattle.walk.specs.Marks.{Ready, Paint, hit, miss, Painted, Tells, Told}
-use Rattle.walk.specs.Passes.{Passes, Lists, Listed, Reached, start, step, Plain, Deepest, Deep, Moved}
+use Rattle.walk.specs.Passes.{Passes, Lists, SomeLists, Reached, start, step, Plain, Deepest, Deep, Moved}
 use Rattle.walk.specs.declared.Pick.{Pick}
 use Rattle.walk.specs.declared.Pick.the-variants.{All, Updates, Others}
 use Rattle.walk.proofs.Painting.{ready-early, Marking}
@@ -48,7 +48,7 @@ on-mark (marked e p) o = e
 on-mark (unmarked e n) o = absurd (n o)
 
 module _ {s : List ℕ} {r : ℕ} (R : Ready s r) where
-  pub heads-told : {m u m′ : List ℕ} → Painted (λ j. j < countOf s) 1 m u → Painted (Listed All s (countOf s)) 0 u m′ → Told s (Head (opsOf s)) m m′
+  pub heads-told : {m u m′ : List ℕ} → Painted (λ j. j < countOf s) 1 m u → Painted (SomeLists All s (countOf s)) 0 u m′ → Told s (Head (opsOf s)) m m′
   heads-told {m} {u} {m′} a b =
       record {
         size = b .size ∙ a .size;
@@ -56,7 +56,7 @@ module _ {s : List ℕ} {r : ℕ} (R : Ready s r) where
         rest = λ j h. paint-miss (b .each j) (λ l. omega (arith, l .below, lists-early R (l .by) j (l .below) (l .lists))) ∙ paint-miss (a .each j) (λ l. omega arith);
       }
     where
-      go : (j : ℕ) → j < countOf s → Paint (Listed All s (countOf s) j) 0 (getD u j 0) (getD m′ j 0) → Mark (Head (opsOf s) (digestAt s j)) (getD m′ j 0)
+      go : (j : ℕ) → j < countOf s → Paint (SomeLists All s (countOf s) j) 0 (getD u j 0) (getD m′ j 0) → Mark (Head (opsOf s) (digestAt s j)) (getD m′ j 0)
       go j h (hit l e) = unmarked e (λ k. k .childless (digestAt s (l .by)) (record { op = opOf s (l .by); stands = op-at R (l .by) (l .below); named = refl; lists = lists-in R (l .by) j (l .lists) }))
       go j h (miss n e) =
           marked
@@ -141,11 +141,11 @@ module _ {s : List ℕ} {r : ℕ} (R : Ready s r) where
         rest = λ j h. plain-rest j h k ∙ reached-rest j h w;
       }
 
-  module _ {m u c : List ℕ} (a : Painted (λ j. j < countOf s) 0 m u) (b : Painted (Listed Updates s (countOf s)) 1 u c) where
-    seed-on : (j : ℕ) → j < countOf s → getD c j 0 ≡ 1 → Listed Updates s (countOf s) j
+  module _ {m u c : List ℕ} (a : Painted (λ j. j < countOf s) 0 m u) (b : Painted (SomeLists Updates s (countOf s)) 1 u c) where
+    seed-on : (j : ℕ) → j < countOf s → getD c j 0 ≡ 1 → SomeLists Updates s (countOf s) j
     seed-on j h e = go (b .each j)
       where
-        go : Paint (Listed Updates s (countOf s) j) 1 (getD u j 0) (getD c j 0) → Listed Updates s (countOf s) j
+        go : Paint (SomeLists Updates s (countOf s) j) 1 (getD u j 0) (getD c j 0) → SomeLists Updates s (countOf s) j
         go (hit l x) = l
         go (miss n x) = absurd (omega (arith, e, x, paint-hit (a .each j) h))
 

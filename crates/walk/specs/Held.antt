@@ -16,7 +16,7 @@ pub record Sized (P : ℕ → Type 0) (r : ℕ) : Type 0 where
   pub counted : length members ≡ r
 
 -- d is among the first k digests of the list l and isn't held
-pub record Missing (s l : List ℕ) (k d : ℕ) : Type 0 where
+pub record UnheldAmong (s l : List ℕ) (k d : ℕ) : Type 0 where
   pub among : Among l k d
   pub lacks : ¬ Held (opsOf s) d
 

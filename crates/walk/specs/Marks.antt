@@ -35,3 +35,9 @@ pub record Told (s : List ℕ) (P : ℕ → Type 0) (m m′ : List ℕ) : Type 0
   pub size : length m′ ≡ length m
   pub tells : Tells s P m′
   pub rest : (j : ℕ) → countOf s ≤ j → getD m′ j 0 ≡ getD m j 0
+
+-- f 0, f 1, .., c of them, stand at the front of h′; the others are those of h
+pub record Front (f : ℕ → ℕ) (h h′ : List ℕ) (c : ℕ) : Type 0 where
+  pub size : length h′ ≡ length h
+  pub there : (k : ℕ) → k < c → getD h′ k 0 ≡ f k
+  pub rest : (k : ℕ) → c ≤ k → getD h′ k 0 ≡ getD h k 0

@@ -32,7 +32,7 @@ abbrev pub Lists : List ℕ → ℕ → ℕ → Type 0
 Lists s i j = OneOf (predAt s i) (predsAt s i) j
 
 -- one of the first n records is picked and lists place j
-pub record Listed (p : Pick) (s : List ℕ) (n j : ℕ) : Type 0 where
+pub record SomeLists (p : Pick) (s : List ℕ) (n j : ℕ) : Type 0 where
   pub by : ℕ
   pub below : by < n
   pub picked : Picked p s by

@@ -12,8 +12,8 @@ ghost use Rattle.digest.specs.Lists.{nth, Among};
 ghost use Rattle.store.specs.Layout.{countOf, digestAt, predsAt, opsOf};
 ghost use Rattle.store.specs.Answers.{Looked};
 ghost use Rattle.walk.specs.Marks.{Ready, Painted, Told};
-ghost use Rattle.walk.specs.Passes.{Picked, Lists, Listed, Reached, Plain, Deepest, Deep, Moved};
-ghost use Rattle.walk.specs.Held.{Sized, Missing, Adds, MarkedAdd};
+ghost use Rattle.walk.specs.Passes.{Picked, Lists, SomeLists, Reached, Plain, Deepest, Deep, Moved};
+ghost use Rattle.walk.specs.Held.{Sized, UnheldAmong, Adds, MarkedAdd};
 ghost use Rattle.walk.specs.declared.Pick.the-variants.{All};
 use digest::Order;
 use store::Found;
@@ -66,7 +66,7 @@ fn mark_listed(s: &[u8], i: usize, marks: &mut [u8], v: u8)
 // Gives all places that picked records list the mark v.
 fn mark_all_listed(s: &[u8], p: Pick, marks: &mut [u8], v: u8)
     requires { ⌜ Ready (now s) (length (now marks)) ⌝ }
-    ensures { λ r. ⌜ Painted (Listed p (now (s .entry)) (countOf (now (s .entry)))) v (now (marks .entry)) (now (marks .exit)) ⌝ }
+    ensures { λ r. ⌜ Painted (SomeLists p (now (s .entry)) (countOf (now (s .entry)))) v (now (marks .entry)) (now (marks .exit)) ⌝ }
 {
     let n = store::count(s);
     let mut i: usize = 0;
@@ -119,7 +119,7 @@ pub fn nearest(s: &[u8], marks: &mut [u8])
 }
 
 // Marks the heads.
-pub fn heads(s: &[u8], marks: &mut [u8])
+pub fn mark_heads(s: &[u8], marks: &mut [u8])
     requires { ⌜ Ready (now s) (length (now marks)) ⌝ }
     ensures { λ r. ⌜ Told (now (s .entry)) (Head (opsOf (now (s .entry)))) (now (marks .entry)) (now (marks .exit)) ⌝ }
 {
@@ -235,7 +235,7 @@ fn stood(l: &[u8], k: usize) -> bool
 // Marks the held digests of a list and counts those that aren't held, each once.
 pub fn mark_held(s: &[u8], l: &[u8], marks: &mut [u8]) -> usize
     requires { ⌜ Ready (now s) (length (now marks)) ⌝ }
-    ensures { λ r. ⌜ Told (now (s .entry)) (λ d. d ∈ digestsOf (now (l .entry))) (now (marks .entry)) (now (marks .exit)) × Sized (Missing (now (s .entry)) (now (l .entry)) (length (now (l .entry)) / 32)) r ⌝ }
+    ensures { λ r. ⌜ Told (now (s .entry)) (λ d. d ∈ digestsOf (now (l .entry))) (now (marks .entry)) (now (marks .exit)) × Sized (UnheldAmong (now (s .entry)) (now (l .entry)) (length (now (l .entry)) / 32)) r ⌝ }
 {
     let n = store::count(s);
     fill(marks, n, 0);

@@ -34,7 +34,7 @@ fn heads(s: &[u8])
     requires { ⌜ Ready (now s) 512 ⌝ }
 {
     let mut marks = [0u8; 512];
-    walk::heads(s, &mut marks);
+    walk::mark_heads(s, &mut marks);
     set(b"heads:", s, &marks);
 }
 

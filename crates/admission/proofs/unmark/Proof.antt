@@ -1,7 +1,7 @@
 -- `admission::unmark` meets its contract. The loop's invariant: it is done for the first i places.
 -- Assumes nothing.
 use Rattle.admission.proofs.Passing.{set-skip, set-more}
-use Rattle.admission.specs.Marks.{Set}
+use Rattle.admission.specs.Marks.{MarkSet}
 use Rattle.walk.proofs.Painting.{painted-none}
 use Rattle.walk.specs.Marks.{Painted}
 use mathlib.Core.Logic.{⊎-elim}
@@ -15,7 +15,7 @@ use Rattle.admission.proofs.unmark.Reads as reads
 use Rattle.admission.proofs.unmark.Lts as lts
 
 abbrev Inv-loop : tie.InvT-loop
-Inv-loop marks₀ other n i₀ marks i = (i ≤ n) × Painted (Set other i) 0 marks₀ marks
+Inv-loop marks₀ other n i₀ marks i = (i ≤ n) × Painted (MarkSet other i) 0 marks₀ marks
 
 abbrev μ-loop : tie.MeasureT-loop
 μ-loop marks₀ other n i₀ marks i = n - i

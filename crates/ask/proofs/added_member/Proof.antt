@@ -11,7 +11,7 @@ use Rattle.store.specs.Layout.{countOf, digestAt}
 use Rattle.store.proofs.Tests.{looked-at}
 use Rattle.walk.proofs.Painting.{ready-bare, ready-size, ready-count}
 use Rattle.walk.proofs.Places.{looked-unheld}
-use Rattle.ask.proofs.Answers.{Passed, digest-passed, added-here, added-kind, added-member, parted-none, parted-refused, parted-some}
+use Rattle.ask.proofs.Answers.{DigestPassed, digest-passed, added-here, added-kind, added-member, parted-none, parted-refused, parted-some}
 use Rattle.ask.proofs.added_member.Statement.{statement}
 use Rattle.ask.proofs.added_member.Tie as tie
 use Rattle.ask.proofs.added_member.Reads as reads
@@ -36,7 +36,7 @@ returns : tie.Need-returns
 returns c = parted-refused (c .before .if1 .taken) (c .before .before .of-digest .ensures .number)
 
 -- nothing is refused
-passed : (c : tie.Else1) → let w = c .before .before .before .before .args in Passed (w .store .now) (w .digest .now)
+passed : (c : tie.Else1) → let w = c .before .before .before .before .args in DigestPassed (w .store .now) (w .digest .now)
 passed c = let w = c .before .before .before .before .args in digest-passed (w .store .now) (w .digest .now) (c .before .of-digest .ensures) (c .if1 .left)
 
 place-of-requires : tie.Need-place-of-requires

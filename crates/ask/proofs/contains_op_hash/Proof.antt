@@ -5,7 +5,7 @@ use borrow.Author.Needs.{needs}
 use Rattle.rules.proofs.Answers.{answered-done}
 use Rattle.walk.proofs.Painting.{ready-bare}
 use Rattle.walk.proofs.Places.{looked-held, looked-unheld}
-use Rattle.ask.proofs.Answers.{Passed, digest-passed}
+use Rattle.ask.proofs.Answers.{DigestPassed, digest-passed}
 use Rattle.ask.proofs.contains_op_hash.Statement.{statement}
 use Rattle.ask.proofs.contains_op_hash.Tie as tie
 use Rattle.ask.proofs.contains_op_hash.Reads as reads
@@ -20,7 +20,7 @@ returns : tie.Need-returns
 returns c = search needs
 
 -- nothing is refused
-passed : (c : tie.Else1) → let w = c .before .before .before .before .args in Passed (w .store .now) (w .digest .now)
+passed : (c : tie.Else1) → let w = c .before .before .before .before .args in DigestPassed (w .store .now) (w .digest .now)
 passed c = let w = c .before .before .before .before .args in digest-passed (w .store .now) (w .digest .now) (c .before .of-digest .ensures) (c .if1 .left)
 
 place-of-requires : tie.Need-place-of-requires

@@ -14,7 +14,7 @@ use Rattle.store.proofs.Ops.{ops-length}
 use Rattle.store.proofs.Tests.{looked-at}
 use Rattle.walk.proofs.Painting.{ready-bare, ready-count}
 use Rattle.walk.proofs.Places.{ready-formed, held-at, looked-unheld}
-use Rattle.ask.proofs.Answers.{Passed, digest-passed}
+use Rattle.ask.proofs.Answers.{DigestPassed, digest-passed}
 use Rattle.ask.proofs.depth.Statement.{statement}
 use Rattle.ask.proofs.depth.Tie as tie
 use Rattle.ask.proofs.depth.Reads as reads
@@ -31,7 +31,7 @@ returns : tie.Need-returns
 returns c = let w = c .before .before .before .before .args in valued-refused (c .if1 .taken) (held-refused (w .store .now) (w .digest .now) (c .if1 .taken) (c .before .of-digest .ensures .number))
 
 -- nothing is refused so far
-passed : (c : tie.Else1) → let w = c .before .before .before .before .args in Passed (w .store .now) (w .digest .now)
+passed : (c : tie.Else1) → let w = c .before .before .before .before .args in DigestPassed (w .store .now) (w .digest .now)
 passed c = let w = c .before .before .before .before .args in digest-passed (w .store .now) (w .digest .now) (c .before .of-digest .ensures) (c .if1 .left)
 
 place-of-requires : tie.Need-place-of-requires

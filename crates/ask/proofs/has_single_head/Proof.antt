@@ -14,7 +14,7 @@ use Rattle.ask.proofs.one_mark.Reads as one-mark-reads
 use Rattle.refusal.proofs.Refusals.{tested-done}
 use Rattle.refusal.proofs.of_store.Reads as of-store-reads
 use Rattle.store.proofs.count.Reads as count-reads
-use Rattle.walk.proofs.heads.Reads as heads-reads
+use Rattle.walk.proofs.mark_heads.Reads as mark-heads-reads
 
 of-store-requires : tie.Need-of-store-requires
 of-store-requires c κs = search needs
@@ -22,15 +22,15 @@ of-store-requires c κs = search needs
 returns : tie.Need-returns
 returns c = search needs
 
-slice-aggregate-heads : tie.Need-slice-aggregate-heads
-slice-aggregate-heads c = search needs
+slice-aggregate-mark-heads : tie.Need-slice-aggregate-mark-heads
+slice-aggregate-mark-heads c = search needs
 
 -- nothing is refused
 ready : (c : tie.Else1) → Ready (c .before .before .before .args .store .now) 512
 ready c = large-ready (c .before .of-store .ensures .passed (c .if1 .left))
 
-heads-requires : tie.Need-heads-requires
-heads-requires c κs = ready (c .before)
+mark-heads-requires : tie.Need-mark-heads-requires
+mark-heads-requires c κs = ready (c .before)
 
 slice-aggregate-one-mark : tie.Need-slice-aggregate-one-mark
 slice-aggregate-one-mark c = search needs
@@ -44,7 +44,7 @@ one-mark-requires c κs = omega (arith, c .count .ensures .0, ready-count (ready
 returns-2 : tie.Need-returns-2
 returns-2 c =
     let e = c .before .before .before .before .before .before in
-    answered-done (tested-done (e .before .of-store .ensures) (e .if1 .left)) (single-told (ready e) (c .before .before .before .before .heads .ensures) (c .one-mark .result) (rw (c .before .count .ensures .0) at (c .one-mark .ensures)))
+    answered-done (tested-done (e .before .of-store .ensures) (e .if1 .left)) (single-told (ready e) (c .before .before .before .before .mark-heads .ensures) (c .one-mark .result) (rw (c .before .count .ensures .0) at (c .one-mark .ensures)))
 
 pub has-single-head-spec : {M : Type 1} → statement M
 has-single-head-spec =
@@ -52,8 +52,8 @@ has-single-head-spec =
     (tie.spec
     of-store-requires
     returns
-    slice-aggregate-heads
-    heads-requires
+    slice-aggregate-mark-heads
+    mark-heads-requires
     slice-aggregate-one-mark
     count-requires
     one-mark-requires

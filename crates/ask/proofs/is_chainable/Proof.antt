@@ -10,7 +10,7 @@ use Rattle.store.specs.Layout.{countOf, digestAt}
 use Rattle.store.proofs.Tests.{looked-at}
 use Rattle.walk.proofs.Painting.{ready-bare, ready-count}
 use Rattle.walk.proofs.Places.{looked-unheld}
-use Rattle.ask.proofs.Answers.{Passed, digest-passed, mark-says}
+use Rattle.ask.proofs.Answers.{DigestPassed, digest-passed, mark-says}
 use Rattle.ask.proofs.is_chainable.Statement.{statement}
 use Rattle.ask.proofs.is_chainable.Tie as tie
 use Rattle.ask.proofs.is_chainable.Reads as reads
@@ -26,7 +26,7 @@ returns : tie.Need-returns
 returns c = search needs
 
 -- nothing is refused
-passed : (c : tie.Else1) → let w = c .before .before .before .before .args in Passed (w .store .now) (w .digest .now)
+passed : (c : tie.Else1) → let w = c .before .before .before .before .args in DigestPassed (w .store .now) (w .digest .now)
 passed c = let w = c .before .before .before .before .args in digest-passed (w .store .now) (w .digest .now) (c .before .of-digest .ensures) (c .if1 .left)
 
 place-of-requires : tie.Need-place-of-requires

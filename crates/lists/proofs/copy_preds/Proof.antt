@@ -5,9 +5,9 @@ use native.Mathlib.Omega.{arith}
 use mathlib.Core.Path.{_≡_}
 use lib.ListN.{length}
 use borrow.Author.Needs.{needs}
-use Rattle.walk.proofs.Painting.{ready-size, ready-few}
-use Rattle.lists.specs.Places.{PlacesOf}
-use Rattle.lists.proofs.Lists.{places-none, places-more}
+use Rattle.walk.specs.Marks.{Front}
+use Rattle.store.specs.Layout.{predAt}
+use Rattle.walk.proofs.Painting.{ready-size, ready-few, front-none, front-more}
 use Rattle.lists.proofs.copy_preds.Statement.{statement}
 use Rattle.lists.proofs.copy_preds.Tie as tie
 use Rattle.lists.proofs.copy_preds.Reads as reads
@@ -16,7 +16,7 @@ use Rattle.store.proofs.pred_at.Reads as pred-at-reads
 use Rattle.store.proofs.preds_at.Reads as preds-at-reads
 
 abbrev Inv-loop : tie.InvT-loop
-Inv-loop store i places₀ c k₀ places k = (k ≤ c) × PlacesOf store i places₀ places k
+Inv-loop store i places₀ c k₀ places k = (k ≤ c) × Front (predAt store i) places₀ places k
 
 abbrev μ-loop : tie.MeasureT-loop
 μ-loop store i places₀ c k₀ places k = c - k
@@ -25,7 +25,7 @@ preds-at-requires : tie.Need-preds-at-requires Inv-loop μ-loop
 preds-at-requires c κs = let w = c .before .before in ready-size (w .pre .0) _ (w .pre .1 .0)
 
 loop-holds : tie.Need-loop-holds Inv-loop μ-loop
-loop-holds c = (omega arith, places-none _ _ _)
+loop-holds c = (omega arith, front-none _ _)
 
 -- the slot is one of 16
 slot : (c : tie.In-loop Inv-loop μ-loop) → c .before .loop .k < 16
@@ -54,7 +54,7 @@ loop-less : tie.Need-loop-less Inv-loop μ-loop
 loop-less c = search needs
 
 loop-again : tie.Need-loop-again Inv-loop μ-loop
-loop-again c = (omega arith, rw (c .pred-at .ensures .0) (places-more (room c) (c .before .before .loop .inv .1)))
+loop-again c = (omega arith, rw (c .pred-at .ensures .0) (front-more _ (room c) (c .before .before .loop .inv .1)))
 
 same-length : tie.Need-same-length Inv-loop μ-loop
 same-length c = c .before .loop .inv .1 .size

@@ -13,7 +13,7 @@ use Rattle.lists.proofs.heads.Lts as lts
 use Rattle.order.proofs.write_set.Reads as write-set-reads
 use Rattle.refusal.proofs.Refusals.{tested-none}
 use Rattle.refusal.proofs.of_store.Reads as of-store-reads
-use Rattle.walk.proofs.heads.Reads as heads-reads
+use Rattle.walk.proofs.mark_heads.Reads as mark-heads-reads
 
 of-store-requires : tie.Need-of-store-requires
 of-store-requires c κs = search needs
@@ -25,11 +25,11 @@ returns c = listed-refused (c .if1 .taken) (c .before .of-store .ensures .number
 ready : (c : tie.Else1) → Ready (c .before .before .before .before .args .store .now) 512
 ready c = large-ready (c .before .of-store .ensures .passed (c .if1 .left))
 
-slice-aggregate-heads : tie.Need-slice-aggregate-heads
-slice-aggregate-heads c = search needs
+slice-aggregate-mark-heads : tie.Need-slice-aggregate-mark-heads
+slice-aggregate-mark-heads c = search needs
 
-heads-requires : tie.Need-heads-requires
-heads-requires c κs = ready (c .before)
+mark-heads-requires : tie.Need-mark-heads-requires
+mark-heads-requires c κs = ready (c .before)
 
 slice-aggregate-write-set : tie.Need-slice-aggregate-write-set
 slice-aggregate-write-set c = search needs
@@ -41,7 +41,7 @@ write-set-requires : tie.Need-write-set-requires
 write-set-requires c κs =
     let w = c .before .before .before .before in
     let R = ready (w .before .before) in
-    (rw (w .heads .ensures .size) R, R .enough)
+    (rw (w .mark-heads .ensures .size) R, R .enough)
 
 same-length : tie.Need-same-length
 same-length c = search needs
@@ -51,7 +51,7 @@ returns-2 c =
     let w = c .before .before .before in
     let h = w .before .before .before .before .before in
     let t = h .before .before in
-    marked-listed (tested-none (omega arith) (t .if1 .left) (t .before .of-store .ensures)) (ready t) (h .heads .ensures .tells) (λ x p. p .held) (w .write-set .ensures)
+    marked-listed (tested-none (omega arith) (t .if1 .left) (t .before .of-store .ensures)) (ready t) (h .mark-heads .ensures .tells) (λ x p. p .held) (w .write-set .ensures)
 
 pub heads-spec : {M : Type 1} → statement M
 heads-spec =
@@ -59,8 +59,8 @@ heads-spec =
     (tie.spec
     of-store-requires
     returns
-    slice-aggregate-heads
-    heads-requires
+    slice-aggregate-mark-heads
+    mark-heads-requires
     slice-aggregate-write-set
     slice-aggregate-write-set-2
     write-set-requires

@@ -8,7 +8,7 @@ use borrow.Author.Needs.{needs}
 use Rattle.store.specs.Layout.{countOf}
 use Rattle.rules.proofs.Answers.{says-yes, says-no}
 use Rattle.walk.specs.Marks.{Painted}
-use Rattle.walk.specs.Passes.{Listed}
+use Rattle.walk.specs.Passes.{SomeLists}
 use Rattle.walk.proofs.Painting.{painted-none, ready-size, ready-head}
 use Rattle.walk.proofs.Passes.{listed-more, listed-skip}
 use Rattle.walk.proofs.mark_all_listed.Statement.{statement}
@@ -20,7 +20,7 @@ use Rattle.walk.proofs.mark_listed.Reads as mark-listed-reads
 use Rattle.walk.proofs.picks.Reads as picks-reads
 
 abbrev Inv-loop : tie.InvT-loop
-Inv-loop s p marks₀ v n i₀ marks i = (i ≤ n) × Painted (Listed p s i) v marks₀ marks
+Inv-loop s p marks₀ v n i₀ marks i = (i ≤ n) × Painted (SomeLists p s i) v marks₀ marks
 
 abbrev μ-loop : tie.MeasureT-loop
 μ-loop s p marks₀ v n i₀ marks i = n - i

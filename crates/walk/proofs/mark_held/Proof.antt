@@ -10,7 +10,7 @@ use Rattle.rules.specs.Answers.{Says}
 use Rattle.digest.specs.Lists.{nth, Among}
 use Rattle.store.proofs.Tests.{looked-none, looked-at}
 use Rattle.rules.proofs.Answers.{says-yes, says-no}
-use Rattle.walk.specs.Held.{Sized, Missing, Wanted}
+use Rattle.walk.specs.Held.{Sized, UnheldAmong, Wanted}
 use Rattle.walk.specs.Marks.{Painted}
 use Rattle.walk.proofs.Held.{missing-none, wanted-more, missing-held, wanted-same, missing-again, missing-more, held-told, wanted-none}
 use Rattle.walk.proofs.Painting.{ready-room, ready-head}
@@ -24,7 +24,7 @@ use Rattle.walk.proofs.fill.Reads as fill-reads
 use Rattle.walk.proofs.stood.Reads as stood-reads
 
 abbrev Inv-loop : tie.InvT-loop
-Inv-loop s l marks₀ n c missing₀ k₀ marks missing k = (k ≤ c) × (missing ≤ k) × Painted (Wanted s l k) 1 marks₀ marks × Sized (Missing s l k) missing
+Inv-loop s l marks₀ n c missing₀ k₀ marks missing k = (k ≤ c) × (missing ≤ k) × Painted (Wanted s l k) 1 marks₀ marks × Sized (UnheldAmong s l k) missing
 
 abbrev μ-loop : tie.MeasureT-loop
 μ-loop s l marks₀ n c missing₀ k₀ marks missing k = c - k

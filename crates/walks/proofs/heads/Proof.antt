@@ -5,14 +5,14 @@ use Rattle.walks.proofs.heads.Statement.{statement}
 use Rattle.walks.proofs.heads.Tie as tie
 use Rattle.walks.proofs.heads.Reads as reads
 use Rattle.walks.proofs.heads.Lts as lts
-use Rattle.walk.proofs.heads.Reads as heads-reads
+use Rattle.walk.proofs.mark_heads.Reads as mark-heads-reads
 use Rattle.walks.proofs.set.Reads as set-reads
 
-slice-aggregate-heads : tie.Need-slice-aggregate-heads
-slice-aggregate-heads c = search needs
+slice-aggregate-mark-heads : tie.Need-slice-aggregate-mark-heads
+slice-aggregate-mark-heads c = search needs
 
-heads-requires : tie.Need-heads-requires
-heads-requires c κs = search needs
+mark-heads-requires : tie.Need-mark-heads-requires
+mark-heads-requires c κs = search needs
 
 slice-aggregate-set : tie.Need-slice-aggregate-set
 slice-aggregate-set c = search needs
@@ -21,7 +21,7 @@ slice-aggregate-set-2 : tie.Need-slice-aggregate-set-2
 slice-aggregate-set-2 c = search needs
 
 set-requires : tie.Need-set-requires
-set-requires c κs = let w = c .before .before .before .before .before .before .pre in (rw (c .before .before .before .heads .ensures .size) w, w)
+set-requires c κs = let w = c .before .before .before .before .before .before .pre in (rw (c .before .before .before .mark-heads .ensures .size) w, w)
 
 returns : tie.Need-returns
 returns c = search needs
@@ -30,8 +30,8 @@ pub heads-spec : {M : Type 1} → statement M
 heads-spec =
     tie.close
     (tie.spec
-    slice-aggregate-heads
-    heads-requires
+    slice-aggregate-mark-heads
+    mark-heads-requires
     slice-aggregate-set
     slice-aggregate-set-2
     set-requires

@@ -1,0 +1,5 @@
+pub mod Comparing
+pub mod Mapping
+pub mod Taking
+pub mod Merging
+pub mod Outcomes
