@@ -1,3 +1,4 @@
+#![tactic(auto)]
 // Making a store fresh, and admission: an offer is tested whole before anything is written.
 ghost use Rattle.std.specs.Prelude.{ℕ, ◌+◌, ◌/◌, ◌%◌, ◌≤◌, ◌<◌, ◌≡◌, false, [], length, get_or};
 ghost use Rattle.rules.specs.Answers.{Says, Listed};

@@ -1,3 +1,4 @@
+#![tactic(auto)]
 // The small questions that answer yes or no, a depth, or a part of a store: each call tests its input, owns its work arrays and only reads the store.
 ghost use Rattle.std.specs.Prelude.{◌≤◌, ◌⊎◌, length};
 ghost use Rattle.rules.specs.Answers.{Says};

@@ -1,3 +1,4 @@
+#![tactic(auto)]
 // Fills a store to its capacities and damages it; prints what is found, a number each.
 ghost use Rattle.std.specs.Prelude.{◌≤◌, length};
 

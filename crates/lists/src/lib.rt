@@ -1,3 +1,4 @@
+#![tactic(auto)]
 // The questions that answer a list of digests: each call tests its input, owns its work arrays and only reads the store.
 ghost use Rattle.std.specs.Prelude.{◌≤◌, ◌<◌, ◌≡◌, length};
 ghost use Rattle.rules.specs.Table.{most_listed};

@@ -1,3 +1,4 @@
+#![tactic(auto)]
 // Merges small and full stores; prints the number, whether the first store is untouched, and its heads. The second is only lent for
 // reading.
 use cgka_graph::{operation, predecessors};

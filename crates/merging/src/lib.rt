@@ -1,3 +1,4 @@
+#![tactic(auto)]
 // Merge: all operations of the second store are compared before anything is written; those that the first lacks are then appended.
 ghost use Rattle.std.specs.Prelude.{◌≤◌, ◌<◌, ◌≡◌, length, get_or};
 ghost use Rattle.rules.specs.Answers.{Says};

@@ -1,3 +1,4 @@
+#![tactic(auto)]
 // What the predecessors that a question names say of a store: whether all heads are among them.
 ghost use Rattle.std.specs.Prelude.{◌≤◌, ◌%◌, ◌≡◌, length};
 ghost use Rattle.rules.specs.Answers.{Says};

@@ -1,3 +1,4 @@
+#![tactic(auto)]
 // What the test programs share: digests of digits, and printing. Digest n is 32 bytes of value n; an output is filled with 170 before it
 // is lent.
 ghost use Rattle.std.specs.Prelude.{◌≤◌, length};

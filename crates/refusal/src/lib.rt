@@ -1,3 +1,4 @@
+#![tactic(auto)]
 // The refusals that come first in every call: the number of the first that holds, 0 where none does.
 ghost use Rattle.std.specs.Prelude.{◌⊎◌};
 ghost use Rattle.rules.specs.Table.{limits, most_listed};

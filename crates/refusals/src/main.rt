@@ -1,3 +1,4 @@
+#![tactic(auto)]
 // Runs every refusal of every public call; prints the numbers, the counts, and whether the lent bytes are untouched.
 use cgka_graph::operation::YesNo;
 use cgka_graph::{operation, predecessors};

@@ -1,3 +1,4 @@
+#![tactic(auto)]
 // How far up the operations that list a place stand, the greatest rank of those that are marked; and how far the places before a
 // position reach.
 ghost use Rattle.std.specs.Prelude.{◌≤◌, ◌<◌, ◌≡◌, length, get_or};

@@ -1,3 +1,4 @@
+#![tactic(auto)]
 // Runs the graphs of the rules and the limits through the public calls; prints what is answered. A list is written with one digit a
 // digest.
 use cgka_graph::{operation, predecessors};

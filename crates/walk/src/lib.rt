@@ -1,3 +1,4 @@
+#![tactic(auto)]
 // Walks over a sound store: each leaves a mark for each of its operations, in arrays that the caller lends.
 ghost use Rattle.std.specs.Prelude.{ℕ, ◌+◌, ◌*◌, ◌/◌, ◌≤◌, ◌<◌, [], ◌∷◌, length, get_or};
 ghost use Rattle.rules.specs.Bytes.{digest_of, digests_of};

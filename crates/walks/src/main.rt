@@ -1,3 +1,4 @@
+#![tactic(auto)]
 // Runs the walks and the orders over the graphs of the rules; prints what they mark and in which order.
 ghost use Rattle.std.specs.Prelude.{length};
 ghost use Rattle.walk.specs.Marks.{Ready};
