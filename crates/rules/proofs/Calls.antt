@@ -8,7 +8,7 @@ use mathlib.Core.Bool.{Bool}
 use mathlib.Core.Logic.{◌⊎◌, inl, inr, ◌↔◌}
 use mathlib.Core.List.{List}
 use Rattle.rules.specs.Batches.{BatchesAnswered, batches_for_heads_refusals, batches_refusals}
-use Rattle.rules.specs.Bytes.{Bytes, digest_of, digests_of, part}
+use Rattle.rules.specs.Bytes.{Bytes, digest_of, digests_of}
 use Rattle.rules.specs.Calls.{Heads, NearestUpdateAncestors, PredecessorsFor, ChildrenOf, FilterInCausalPast, DepthOf, ContainsOpHash, ContainsAll, IsChainable, HasSingleHead, HasAddBefore, BatchHasListed, BatchHasKind, BatchesForHeads, AllBatches, AddedMember, Find}
 use Rattle.rules.specs.Filter.{Observed, filter_refusals}
 use Rattle.rules.specs.First.{First}

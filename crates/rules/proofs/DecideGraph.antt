@@ -121,12 +121,14 @@ made? o F F' u = fields3? (λ a b c. record { update = a; was = b; passed = c })
 
 -- batches of heads that are held
 module _ {G : List Op} (F : Formed G) (hs : List ℕ) (f : (h : ℕ) → h ∈ hs → Held G h) where
+  -- the depth is that of x as the graph holds it: computed from the proof that x is in the past, it outgrows the memory
   unfoldable pub boundary? : (x : ℕ) → Dec (Boundary G hs x)
-  boundary? x = go (past? F hs x)
+  boundary? x = go (past? F hs x) (held? G x)
     where
-      go : Dec (InPast G hs x) → Dec (Boundary G hs x)
-      go (no n) = no (λ b. n b.inside)
-      go (yes i) = let r = depth_of F (past_held F hs f x i) in via? (layer_boundary F hs f i r.1) (boundary_layer F hs f r.1) (layer? F (InPast G hs) (past? F hs) (past_held F hs f) x r.0)
+      go : Dec (InPast G hs x) → Dec (Held G x) → Dec (Boundary G hs x)
+      go (no n) h = no (λ b. n b.inside)
+      go (yes i) (no n) = absurd (n (past_held F hs f x i))
+      go (yes i) (yes h) = let r = depth_of F h in via? (layer_boundary F hs f i r.1) (boundary_layer F hs f r.1) (layer? F (InPast G hs) (past? F hs) (past_held F hs f) x r.0)
 
   unfoldable pub begins? : (ds : List ℕ) (i : ℕ) → Dec (Begins G hs ds i)
   begins? ds i = cases3? at_first at_boundary past_boundary (λ b. elim b [ at_first e ↦ inl (inl e) | at_boundary x ↦ inl (inr x) | past_boundary x ↦ inr x ]) (search ℕ_discrete) (search boundary?) (search boundary?)

@@ -10,7 +10,6 @@ use mathlib.Core.List.{List, [], ◌∷◌}
 use lib.ListN.{length}
 use Rattle.rules.specs.Graph.{Op, Held, Depth, bottom, above}
 use Rattle.rules.specs.Lists.{◌∈◌}
-use Rattle.rules.specs.Merge.{has}
 use Rattle.rules.proofs.Formed.{no_op, op_at, Formed, one_op, by_preds}
 use Rattle.rules.proofs.Lists.{at_in, in_at}
 

@@ -4,7 +4,6 @@ use Prim.Native.Nat.{◌*◌, ◌/◌, ◌-◌, ◌^◌}
 use mathlib.Core.Path.{◌≡◌, refl}
 use mathlib.Core.List.{[]}
 use Rattle.rules.specs.Listing.{text, digits, hex, record_line, ops_line, op_line}
-use Rattle.rules.specs.Log.{refused}
 
 record Printed : Type 0 where
   ops : ops_line 3 1 3 ≡ text "ops 3 heads 1 batches 3\n"
