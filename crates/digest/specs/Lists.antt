@@ -3,7 +3,6 @@
 use Rattle.std.specs.Prelude.{ℕ, ◌+◌, ◌-◌, ◌*◌, ◌≤◌, ◌<◌, ◌≡◌, List, length, get_or, leb}
 use Rattle.rules.specs.Bytes.{number_at}
 use Rattle.rules.specs.Log.{choose}
-use Rattle.digest.specs.declared.Cursor.{Cursor}
 use Rattle.digest.specs.declared.Next.{Next}
 use Rattle.digest.specs.declared.Next.TheVariants.{Digest, Done}
 

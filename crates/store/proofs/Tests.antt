@@ -3,10 +3,9 @@
 use Prim.Native.Nat.{ℕ, ◌+◌, ◌*◌, ◌/◌, ◌%◌, ◌-◌, ◌≤◌, ◌<◌}
 use native.Mathlib.Omega.{arith}
 use native.Mathlib.Decide.{ℕ_discrete, dec_lt}
-use mathlib.Core.Path.{◌≡◌, subst}
+use mathlib.Core.Path.{◌≡◌, refl, subst}
 use mathlib.Core.List.{List}
 use lib.ListN.{length, get_or, get_or-eq_default}
-use denote.Enum.Declared.{tag_of, declared}
 use mir.Val.{Fits}
 use mir.Syntax.{w8}
 use Rattle.store.specs.Answers.{Looked, Zeros}
@@ -14,7 +13,6 @@ use Rattle.store.specs.Layout.{count_of, digest_at, pred_at}
 use Rattle.store.specs.Sound.{size_of, Framed}
 use Rattle.store.specs.declared.Found.{Found}
 use Rattle.store.specs.declared.Found.TheVariants.{At, Nothing}
-use Rattle.store.specs.contracts.Found.{enum}
 
 pub framed : {s : List ℕ} {n ops : ℕ} → ((j : ℕ) → Fits w8 (get_or s j 0)) → length s ≡ size_of ops → n ≡ count_of s → n ≤ ops → Zeros s 2 64 → Zeros s (64 + 98 * n) (size_of ops) → Framed ops s
 framed {s} {n} {ops} b l e f z r = record { size = l; bytes = λ j. (b j).fits; few = omega arith; reserved = z; rest = λ j h. go j (omega arith) (dec_lt j (size_of ops)) }
@@ -27,9 +25,9 @@ framed {s} {n} {ops} b l e f z r = record { size = l; bytes = λ j. (b j).fits; 
 pub looked_none : (f : Found) (s : List ℕ) (n d : ℕ) → Looked f s n d → f ≡ Nothing → (j : ℕ) → j < n → digest_at s j ≡ d → ⊥
 looked_none f s n d h e = subst (λ x. Looked x s n d) e h
 
-pub looked_some : (f : Found) (s : List ℕ) (n d : ℕ) → Looked f s n d → tag_of (declared enum) f ≡ 0 → (i : ℕ) × (i < n) × (digest_at s i ≡ d)
+pub looked_some : (f : Found) (s : List ℕ) (n d : ℕ) → Looked f s n d → (f ≡ Nothing → ⊥) → (i : ℕ) × (i < n) × (digest_at s i ≡ d)
 looked_some (At i) s n d h e = (i, h.0, h.1)
-looked_some Nothing s n d h e = absurd (omega (arith, e))
+looked_some Nothing s n d h e = absurd (e refl)
 
 -- the slots from c on are zero exactly if their bytes are
 pub zero_slots : (s : List ℕ) (i c : ℕ) → Zeros s (130 + 98 * i + 2 * c) (162 + 98 * i) → (k : ℕ) → c ≤ k → k < 16 → pred_at s i k ≡ 0

@@ -19,7 +19,7 @@ use digest::Order;
 use store::Found;
 
 // Which records a pass takes.
-#[derive(Drop)]
+#[derive(Clone, Copy)]
 pub enum Pick {
     All,
     Updates,

@@ -1,0 +1,38 @@
+use Prim.Native.Nat.{◌<◌}
+use native.Mathlib.Omega.{arith}
+use mathlib.Core.Path.{◌≡◌}
+use lib.ListN.{length}
+use Rattle.store.specs.Layout.{count_of}
+use Rattle.rules.proofs.Answers.{says_yes, says_no}
+use Rattle.walk.proofs.Painting.{painted_none, ready_size, ready_head}
+use Rattle.walk.proofs.Passes.{plain_more, plain_skip}
+use Rattle.walk.proofs.keep_updates.Goals as goal
+use Rattle.walk.proofs.keep_updates.Goals.{then-picks, else-picks}
+
+pub count-n-requires : goal.count-n-requires
+count-n-requires c = ready_head c.requires
+
+pub loop-i-init : goal.loop-i-init
+loop-i-init c = (omega arith, painted_none _ _ (λ j a. absurd (omega (arith, a.below))))
+
+pub picks-requires : goal.picks-requires
+picks-requires c = ready_size c.requires _ (omega (arith, c.count-n.ensures.0))
+
+pub bounds-marks-i : goal.bounds-marks-i
+bounds-marks-i c =
+    let in_marks : c.loop-i.i < length c.loop-i.marks = omega (arith, c.count-n.ensures.0, c.requires.enough, c.loop-i.invariant.1.size) in
+    in_marks
+
+pub loop-i-preserved : goal.loop-i-preserved
+loop-i-preserved c =
+    let in_marks : c.loop-i.i < length c.loop-i.marks = omega (arith, c.count-n.ensures.0, c.requires.enough, c.loop-i.invariant.1.size) in
+    elim c.if-picks.branch [
+      | then-picks w ↦ (omega arith, rw w.marks-is (plain_more in_marks (says_yes _ c.picks.ensures w.if-picks.true) c.loop-i.invariant.1))
+      | else-picks w ↦ (omega arith, rw w.marks-is (plain_skip (says_no _ c.picks.ensures w.if-picks.false) c.loop-i.invariant.1))
+    ]
+
+pub shape_of-marks : goal.shape_of-marks
+shape_of-marks c = c.loop-i.invariant.1.size
+
+pub returns : goal.returns
+returns c = let e : c.loop-i.i ≡ count_of c.args.s.now = omega (arith, c.count-n.ensures.0) in rw e at c.loop-i.invariant.1
