@@ -181,7 +181,7 @@ def turned(folder, function, names, uses, text):
                 left.append(b["name"])
                 continue
             body = flat(body, names, frozenset({params[0]}))
-            used = [h for h in helpers if re.search(r"(?<![\w-])" + re.escape(h) + r"(?![\w-])", body)]
+            used = [h for h in helpers if re.search(r"(?<![\w.-])" + re.escape(h) + r"(?![\w-])", body)]
             grown = True
             while grown:
                 grown = False
@@ -192,8 +192,8 @@ def turned(folder, function, names, uses, text):
                             grown = True
             lets = "".join(f"let {plain(h)} : {helpers[h]['type']} = {helpers[h]['body']} in\n    " for h in helpers if h in used)
             for h in used:
-                body = re.sub(r"(?<![\w-])" + re.escape(h) + r" c(?![\w.-])", plain(h), body)
-                body = re.sub(r"(?<![\w-])" + re.escape(h) + r"(?![\w-])", plain(h), body)
+                body = re.sub(r"(?<![\w.-])" + re.escape(h) + r" c(?![\w.-])", plain(h), body)
+                body = re.sub(r"(?<![\w.-])" + re.escape(h) + r"(?![\w-])", plain(h), body)
             fields = names.asked.get(new) or next((f for k, f in names.asked.items() if plain(k) == old), None)
             if fields:
                 m = re.match(r"(\s*(?:let .*? in\s+)*)(\(.*)$", body, re.S)
@@ -217,9 +217,9 @@ def turned(folder, function, names, uses, text):
                 answers.append("\n".join(b["comment"] + [f"{b['name']} : {b['sig']}"] + b["eq"]))
                 continue
             kind, body = flat(m[1], names, frozenset({"c"})), flat(body, names, frozenset({"c"}))
-            inner = [h for h in helpers if re.search(r"(?<![\w-])" + re.escape(h) + r"(?![\w-])", body)]
+            inner = [h for h in helpers if re.search(r"(?<![\w.-])" + re.escape(h) + r"(?![\w-])", body)]
             for h in inner:
-                body = re.sub(r"(?<![\w-])" + re.escape(h) + r" c(?![\w.-])", plain(h), body)
+                body = re.sub(r"(?<![\w.-])" + re.escape(h) + r" c(?![\w.-])", plain(h), body)
             if params[1:]:
                 body = f"λ {' '.join(params[1:])}. {body.strip()}"
             helpers[b["name"]] = {"type": " ".join(kind.split()), "body": body.strip(), "uses": inner}
