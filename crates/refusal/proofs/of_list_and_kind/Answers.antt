@@ -1,0 +1,17 @@
+-- `refusal::of_list_and_kind` meets its contract.
+use Rattle.rules.proofs.First.{first_here, first_next}
+use mathlib.Core.Logic.{inl, inr, ⊎_elim}
+use native.Mathlib.Omega.{arith}
+use Rattle.refusal.proofs.of_list_and_kind.Goals as goal
+
+pub returns-then-kind-gt2 : goal.returns-then-kind-gt2
+returns-then-kind-gt2 c = record { number = first_here _ _ _ (inr c.if-kind-gt2.true); passed = λ e. absurd (omega arith) }
+
+pub returns-then-list-ne0 : goal.returns-then-list-ne0
+returns-then-list-ne0 c = record { number = first_here _ _ _ (inl c.if-list-ne0.true); passed = λ e. absurd (omega arith) }
+
+pub returns-then-list-gt512 : goal.returns-then-list-gt512
+returns-then-list-gt512 c = record { number = first_next _ _ _ _ (⊎_elim (λ n. n c.if-list-ne0.false) (λ n. omega (arith, n, c.if-kind-gt2.false))) (first_here _ _ _ c.if-list-gt512.true); passed = λ e. absurd (omega arith) }
+
+pub returns : goal.returns
+returns c = record { number = first_next _ _ _ _ (⊎_elim (λ n. n c.if-list-ne0.false) (λ n. omega (arith, n, c.if-kind-gt2.false))) (first_next _ _ _ _ (λ n. omega (arith, n, c.if-list-gt512.false)) c.of_store.ensures.number); passed = c.of_store.ensures.passed }
