@@ -2,6 +2,7 @@
 // Fills a store to its capacities and damages it; prints what is found, a number each.
 ghost use Rattle.std.specs.Prelude.{◌≤◌, length};
 
+use std::io;
 use store::{Found, Gathered};
 
 // 32 bytes that begin with a number of two bytes, the highest first.
@@ -58,10 +59,8 @@ fn turned(s: &mut [u8], p: usize) -> u8 {
     2
 }
 
-fn say(label: &[u8], n: u64) {
-    io::write_all(1, label);
-    io::print_decimal(1, n);
-    io::write_all(1, b"\n");
+fn say(rt: &impl Print, label: &str, n: u64) -> io::Result<()> {
+    println!(rt; "{label}{n}")
 }
 
 // An update that lists the digest before.
@@ -80,27 +79,23 @@ fn put_add(s: &mut [u8], d: &[u8; 32]) -> u8 {
 fn fill(s: &mut [u8]) -> u8 {
     let mut before = digest_of(0);
     let mut r = put_add(s, &before);
-    let mut n: usize = 1;
-    while n < 600 {
+    for n in 1..600 {
         if r != 0 {
             return r;
         }
         let d = digest_of(n);
         r = put_after(s, &d, &before);
         before = d;
-        n += 1;
     }
     r
 }
 
 // Admits n adds.
 fn starts(s: &mut [u8], n: usize) -> u8 {
-    let mut i: usize = 0;
     let mut r: u8 = 0;
-    while i < n {
+    for i in 0..n {
         let d = digest_of(i);
         r = put_add(s, &d);
-        i += 1;
     }
     r
 }
@@ -109,10 +104,8 @@ fn starts(s: &mut [u8], n: usize) -> u8 {
 fn seventeen(list: &mut [u8])
     requires { 544 ≤ length list.old }
 {
-    let mut i: usize = 0;
-    while i < 17 {
+    for i in 0..17 {
         list[32 * i + 1] = (i % 256) as u8;
-        i += 1;
     }
 }
 
@@ -128,67 +121,75 @@ fn put_listing(s: &mut [u8], number: usize, list: &[u8], n: usize) -> u8 {
 }
 
 // 512 operations.
-fn full(s: &mut [u8]) {
-    say(b"fresh: ", store::make_fresh(s, 512) as u64);
-    say(b"sound: ", sound(s) as u64);
-    say(b"operation 513: ", fill(s) as u64);
+fn full(rt: &impl Print, s: &mut [u8]) -> io::Result<()> {
+    say(rt, "fresh: ", store::make_fresh(s, 512) as u64)?;
+    say(rt, "sound: ", sound(s) as u64)?;
+    say(rt, "operation 513: ", fill(s) as u64)?;
     say(
-        b"a held digest on a full store: ",
+        rt,
+        "a held digest on a full store: ",
         put_add(s, &digest_of(5)) as u64,
-    );
-    say(b"sound: ", sound(s) as u64);
+    )?;
+    say(rt, "sound: ", sound(s) as u64)
 }
 
 // 16 predecessors.
-fn slots(s: &mut [u8], list: &[u8]) {
-    say(b"fresh: ", store::make_fresh(s, 512) as u64);
-    say(b"17 adds: ", starts(s, 17) as u64);
-    say(b"17 predecessors: ", put_listing(s, 20, list, 17) as u64);
-    say(b"16 predecessors: ", put_listing(s, 20, list, 16) as u64);
-    say(b"sound: ", sound(s) as u64);
+fn slots(rt: &impl Print, s: &mut [u8], list: &[u8]) -> io::Result<()> {
+    say(rt, "fresh: ", store::make_fresh(s, 512) as u64)?;
+    say(rt, "17 adds: ", starts(s, 17) as u64)?;
+    say(rt, "17 predecessors: ", put_listing(s, 20, list, 17) as u64)?;
+    say(rt, "16 predecessors: ", put_listing(s, 20, list, 16) as u64)?;
+    say(rt, "sound: ", sound(s) as u64)
 }
 
 // A byte turned over, of digests, members and kinds.
-fn damages(s: &mut [u8]) {
-    say(b"an add's member: ", turned(s, 96) as u64);
+fn damages(rt: &impl Print, s: &mut [u8]) -> io::Result<()> {
+    say(rt, "an add's member: ", turned(s, 96) as u64)?;
     say(
-        b"a digest that nothing lists: ",
+        rt,
+        "a digest that nothing lists: ",
         turned(s, 64 + 98 * 17) as u64,
-    );
-    say(b"a digest that is listed: ", turned(s, 64) as u64);
-    say(b"an update's member: ", turned(s, 96 + 98 * 17) as u64);
-    say(b"a kind: ", turned(s, 128) as u64);
+    )?;
+    say(rt, "a digest that is listed: ", turned(s, 64) as u64)?;
+    say(rt, "an update's member: ", turned(s, 96 + 98 * 17) as u64)?;
+    say(rt, "a kind: ", turned(s, 128) as u64)
 }
 
 // A byte turned over, of the slots and of what no record has.
-fn more_damages(s: &mut [u8]) {
+fn more_damages(rt: &impl Print, s: &mut [u8]) -> io::Result<()> {
     say(
-        b"a number of predecessors: ",
+        rt,
+        "a number of predecessors: ",
         turned(s, 129 + 98 * 17) as u64,
-    );
-    say(b"a predecessor's place: ", turned(s, 130 + 98 * 17) as u64);
-    say(b"a free slot: ", turned(s, 130) as u64);
+    )?;
     say(
-        b"a byte after the last record: ",
+        rt,
+        "a predecessor's place: ",
+        turned(s, 130 + 98 * 17) as u64,
+    )?;
+    say(rt, "a free slot: ", turned(s, 130) as u64)?;
+    say(
+        rt,
+        "a byte after the last record: ",
         turned(s, 64 + 98 * 18) as u64,
-    );
-    say(b"the last byte: ", turned(s, 50239) as u64);
+    )?;
+    say(rt, "the last byte: ", turned(s, 50239) as u64)
 }
 
 // A byte turned over, of the store's first bytes; then none.
-fn first_bytes(s: &mut [u8]) {
-    say(b"a reserved byte: ", turned(s, 2) as u64);
-    say(b"the count: ", turned(s, 0) as u64);
-    say(b"none: ", sound(s) as u64);
+fn first_bytes(rt: &impl Print, s: &mut [u8]) -> io::Result<()> {
+    say(rt, "a reserved byte: ", turned(s, 2) as u64)?;
+    say(rt, "the count: ", turned(s, 0) as u64)?;
+    say(rt, "none: ", sound(s) as u64)
 }
 
-fn main() {
+fn main(rt: HostRuntime) -> io::Result<()> {
     let mut s = [1u8; 50240];
     let mut list = [0u8; 544];
-    full(&mut s);
+    full(&rt, &mut s)?;
     seventeen(&mut list);
-    slots(&mut s, &list);
-    damages(&mut s);
-    more_damages(&mut s);
-    first_bytes(&mut s);
+    slots(&rt, &mut s, &list)?;
+    damages(&rt, &mut s)?;
+    more_damages(&rt, &mut s)?;
+    first_bytes(&rt, &mut s)
 }

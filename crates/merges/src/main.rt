@@ -3,25 +3,32 @@
 // reading.
 use cgka_graph::{operation, predecessors};
 use printing::{bit, byte, copy, digest, listed, number, same, say, text};
+use std::io;
 
 fn put(s: &mut [u8], n: u8, kind: u8, member: u8, list: &[u8]) {
     let mut out = [0u8; 64];
     operation::add_op(s, &digest(n), kind, &digest(member), list, &mut out);
 }
 
-fn heads(s: &[u8]) {
+fn heads(rt: &impl Print, s: &[u8]) -> io::Result<()> {
     let mut out = [170u8; 512];
     let a = predecessors::heads(s, &mut out);
-    text(b" heads:");
-    listed(a.number, a.count, &out);
+    text(rt, " heads:")?;
+    listed(rt, a.number, a.count, &out)
 }
 
-fn merged(label: &[u8], s: &mut [u8], other: &[u8], before: &mut [u8]) {
+fn merged(
+    rt: &impl Print,
+    label: &str,
+    s: &mut [u8],
+    other: &[u8],
+    before: &mut [u8],
+) -> io::Result<()> {
     copy(s, before);
     let r = operation::merge(s, other);
-    text(label);
-    number(byte(r));
-    say(b" untouched", bit(same(s, before)));
+    text(rt, label)?;
+    number(rt, byte(r))?;
+    say(rt, " untouched", bit(same(s, before)))
 }
 
 // 1, 2(1)
@@ -46,57 +53,67 @@ fn branch(s: &mut [u8]) {
     put(s, 5, 2, 0, &digest(3));
 }
 
-fn into_empty(a: &mut [u8], b: &mut [u8], before: &mut [u8]) {
+fn into_empty(rt: &impl Print, a: &mut [u8], b: &mut [u8], before: &mut [u8]) -> io::Result<()> {
     operation::fresh(a);
     graph_k(b);
-    merged(b"into an empty store:", a, b, before);
-    heads(a);
-    merged(b"the same again:", a, b, before);
+    merged(rt, "into an empty store:", a, b, before)?;
+    heads(rt, a)?;
+    merged(rt, "the same again:", a, b, before)
 }
 
-fn another_branch(a: &mut [u8], b: &mut [u8], before: &mut [u8]) {
+fn another_branch(
+    rt: &impl Print,
+    a: &mut [u8],
+    b: &mut [u8],
+    before: &mut [u8],
+) -> io::Result<()> {
     branch(b);
-    merged(b"another branch:", a, b, before);
-    heads(a);
+    merged(rt, "another branch:", a, b, before)?;
+    heads(rt, a)
 }
 
-fn other_way(a: &mut [u8], b: &mut [u8], before: &mut [u8]) {
+fn other_way(rt: &impl Print, a: &mut [u8], b: &mut [u8], before: &mut [u8]) -> io::Result<()> {
     graph_k(a);
     branch(b);
-    merged(b"the other way round:", b, a, before);
-    heads(b);
+    merged(rt, "the other way round:", b, a, before)?;
+    heads(rt, b)
 }
 
-fn another_member(a: &mut [u8], b: &mut [u8], before: &mut [u8]) {
+fn another_member(
+    rt: &impl Print,
+    a: &mut [u8],
+    b: &mut [u8],
+    before: &mut [u8],
+) -> io::Result<()> {
     pair(a);
     operation::fresh(b);
     put(b, 7, 0, 0, b"");
     put(b, 1, 0, 9, b"");
-    merged(b"another member:", a, b, before);
+    merged(rt, "another member:", a, b, before)
 }
 
-fn another_set(a: &mut [u8], b: &mut [u8], before: &mut [u8]) {
+fn another_set(rt: &impl Print, a: &mut [u8], b: &mut [u8], before: &mut [u8]) -> io::Result<()> {
     pair(a);
     pair(b);
     put(a, 3, 1, 0, &digest(2));
     put(b, 3, 1, 0, &digest(1));
-    merged(b"another set:", a, b, before);
+    merged(rt, "another set:", a, b, before)
 }
 
-fn another_kind(a: &mut [u8], b: &mut [u8], before: &mut [u8]) {
+fn another_kind(rt: &impl Print, a: &mut [u8], b: &mut [u8], before: &mut [u8]) -> io::Result<()> {
     pair(a);
     operation::fresh(b);
     put(b, 1, 0, 0, b"");
     put(b, 2, 2, 0, &digest(1));
-    merged(b"another kind:", a, b, before);
+    merged(rt, "another kind:", a, b, before)
 }
 
 // Damaged comes before Clash: the stores clash.
-fn damaged(a: &mut [u8], b: &mut [u8], before: &mut [u8]) {
-    merged(b"a second store of no bytes:", a, b"", before);
+fn damaged(rt: &impl Print, a: &mut [u8], b: &mut [u8], before: &mut [u8]) -> io::Result<()> {
+    merged(rt, "a second store of no bytes:", a, b"", before)?;
     spoil(b);
-    merged(b"the second damaged:", a, b, before);
-    merged(b"the first damaged:", b, a, before);
+    merged(rt, "the second damaged:", a, b, before)?;
+    merged(rt, "the first damaged:", b, a, before)
 }
 
 fn spoil(s: &mut [u8]) {
@@ -116,48 +133,46 @@ fn wide(n: usize) -> [u8; 32] {
 // Admits the adds of the numbers from a up to e.
 fn fill(s: &mut [u8], a: usize, e: usize) {
     let mut out = [0u8; 64];
-    let mut n = a;
-    while n < e {
+    for n in a..e {
         operation::add_op(s, &wide(n), 0, &digest(0), b"", &mut out);
-        n += 1;
     }
 }
 
 // Two stores of adds whose union is just within the limit, and then one beyond it.
-fn within(a: &mut [u8], b: &mut [u8], before: &mut [u8]) {
+fn within(rt: &impl Print, a: &mut [u8], b: &mut [u8], before: &mut [u8]) -> io::Result<()> {
     operation::fresh(a);
     operation::fresh(b);
     fill(a, 0, 500);
     fill(b, 490, 512);
-    merged(b"a union of 512:", a, b, before);
+    merged(rt, "a union of 512:", a, b, before)
 }
 
-fn beyond(a: &mut [u8], b: &mut [u8], before: &mut [u8]) {
-    merged(b"a part of a full store:", a, b, before);
+fn beyond(rt: &impl Print, a: &mut [u8], b: &mut [u8], before: &mut [u8]) -> io::Result<()> {
+    merged(rt, "a part of a full store:", a, b, before)?;
     fill(b, 512, 513);
-    merged(b"a union of 513:", a, b, before);
+    merged(rt, "a union of 513:", a, b, before)
 }
 
 // Clash comes before Full.
-fn clash_beyond(a: &mut [u8], b: &mut [u8], before: &mut [u8]) {
+fn clash_beyond(rt: &impl Print, a: &mut [u8], b: &mut [u8], before: &mut [u8]) -> io::Result<()> {
     operation::fresh(b);
     fill(b, 600, 601);
     operation::add_op(b, &wide(7), 0, &digest(9), b"", before);
-    merged(b"a clash and a union of 513:", a, b, before);
+    merged(rt, "a clash and a union of 513:", a, b, before)
 }
 
-fn main() {
+fn main(rt: HostRuntime) -> io::Result<()> {
     let mut a = [0u8; 50240];
     let mut b = [0u8; 50240];
     let mut before = [0u8; 50240];
-    into_empty(&mut a, &mut b, &mut before);
-    another_branch(&mut a, &mut b, &mut before);
-    other_way(&mut a, &mut b, &mut before);
-    another_member(&mut a, &mut b, &mut before);
-    another_set(&mut a, &mut b, &mut before);
-    another_kind(&mut a, &mut b, &mut before);
-    damaged(&mut a, &mut b, &mut before);
-    within(&mut a, &mut b, &mut before);
-    beyond(&mut a, &mut b, &mut before);
-    clash_beyond(&mut a, &mut b, &mut before);
+    into_empty(&rt, &mut a, &mut b, &mut before)?;
+    another_branch(&rt, &mut a, &mut b, &mut before)?;
+    other_way(&rt, &mut a, &mut b, &mut before)?;
+    another_member(&rt, &mut a, &mut b, &mut before)?;
+    another_set(&rt, &mut a, &mut b, &mut before)?;
+    another_kind(&rt, &mut a, &mut b, &mut before)?;
+    damaged(&rt, &mut a, &mut b, &mut before)?;
+    within(&rt, &mut a, &mut b, &mut before)?;
+    beyond(&rt, &mut a, &mut b, &mut before)?;
+    clash_beyond(&rt, &mut a, &mut b, &mut before)
 }

@@ -3,23 +3,23 @@
 // is lent.
 ghost use Rattle.std.specs.Prelude.{◌≤◌, length};
 
+use std::io;
+
 pub fn digest(n: u8) -> [u8; 32] {
     [n; 32]
 }
 
-pub fn text(t: &[u8]) {
-    io::write_all(1, t);
+pub fn text(rt: &impl Print, t: &str) -> io::Result<()> {
+    print!(rt; "{t}")
 }
 
-pub fn number(n: u64) {
-    io::write_all(1, b" ");
-    io::print_decimal(1, n);
+// Prints a space and a number.
+pub fn number(rt: &impl Print, n: u64) -> io::Result<()> {
+    print!(rt; " {n}")
 }
 
-pub fn say(label: &[u8], n: u64) {
-    text(label);
-    number(n);
-    text(b"\n");
+pub fn say(rt: &impl Print, label: &str, n: u64) -> io::Result<()> {
+    println!(rt; "{label} {n}")
 }
 
 pub fn byte(x: u8) -> u64 {
@@ -35,48 +35,36 @@ pub fn bit(b: bool) -> u64 {
 
 // Whether all bytes from a place on are 170.
 pub fn untouched(out: &[u8], from: usize) -> bool {
-    let mut i = from;
-    while i < out.len() {
-        if out[i] != 170 {
-            return false;
-        }
-        i += 1;
-    }
-    true
+    out.iter().skip(from).all(|x| *x == 170)
 }
 
 // Writes the digests of a list of digits; answers their length in bytes.
 pub fn expand(digits: &[u8], list: &mut [u8]) -> usize
     ensures { result ≤ length list.new }
 {
-    let mut i: usize = 0;
-    while i < list.len() {
+    for i in 0..list.len() {
         if digits.len() <= i / 32 {
             return i;
         }
         list[i] = digits[i / 32] % 16;
-        i += 1;
     }
-    i
+    list.len()
 }
 
 // Prints a number, how many digests are listed, the value of each, and whether the bytes past them are untouched.
-pub fn listed(n: u8, count: usize, out: &[u8]) {
-    number(byte(n));
-    text(b" listed");
-    let mut k: usize = 0;
-    while k < count {
+pub fn listed(rt: &impl Print, n: u8, count: usize, out: &[u8]) -> io::Result<()> {
+    number(rt, byte(n))?;
+    text(rt, " listed")?;
+    for k in 0..count {
         if out.len() / 32 <= k {
-            text(b" too many\n");
-            return;
+            return text(rt, " too many\n");
         }
-        number(byte(out[32 * k]));
-        k += 1;
+        number(rt, byte(out[32 * k]))?;
     }
-    if untouched(out, 32 * k) {
-        text(b"\n");
+    if untouched(out, 32 * count) {
+        text(rt, "\n")
     } else {
-        text(b" rest changed\n");
+        text(rt, " rest changed\n")
     }
 }
 
@@ -91,27 +79,12 @@ pub fn part<'a>(t: &'a [u8], from: usize, to: usize) -> &'a [u8] {
 }
 
 pub fn same(a: &[u8], b: &[u8]) -> bool {
-    if a.len() != b.len() {
-        return false;
-    }
-    let mut i: usize = 0;
-    while i < a.len() {
-        if a[i] != b[i] {
-            return false;
-        }
-        i += 1;
-    }
-    true
+    a == b
 }
 
 // Copies what fits.
 pub fn copy(from: &[u8], to: &mut [u8]) {
-    let mut i: usize = 0;
-    while i < to.len() {
-        if from.len() <= i {
-            return;
-        }
-        to[i] = from[i];
-        i += 1;
+    for (t, f) in to.iter_mut().zip(from) {
+        *t = *f;
     }
 }
