@@ -3,6 +3,7 @@
 ghost use Rattle.std.specs.Prelude.{◌≤◌, length};
 
 use std::io;
+use std::io::Write;
 use store::{Found, Gathered};
 
 // 32 bytes that begin with a number of two bytes, the highest first.
@@ -59,8 +60,9 @@ fn turned(s: &mut [u8], p: usize) -> u8 {
     2
 }
 
-fn say(rt: &impl Print, label: &str, n: u64) -> io::Result<()> {
-    println!(rt; "{label}{n}")
+fn say(rt: &impl Print, label: &[u8], n: u64) -> io::Result<()> {
+    io::writer(rt).write_all(label)?;
+    println!(rt; "{n}")
 }
 
 // An update that lists the digest before.
@@ -122,65 +124,73 @@ fn put_listing(s: &mut [u8], number: usize, list: &[u8], n: usize) -> u8 {
 
 // 512 operations.
 fn full(rt: &impl Print, s: &mut [u8]) -> io::Result<()> {
-    say(rt, "fresh: ", store::make_fresh(s, 512) as u64)?;
-    say(rt, "sound: ", sound(s) as u64)?;
-    say(rt, "operation 513: ", fill(s) as u64)?;
+    say(rt, b"fresh: ", store::make_fresh(s, 512) as u64)?;
+    say(rt, b"sound: ", sound(s) as u64)?;
+    say(rt, b"operation 513: ", fill(s) as u64)?;
     say(
         rt,
-        "a held digest on a full store: ",
+        b"a held digest on a full store: ",
         put_add(s, &digest_of(5)) as u64,
     )?;
-    say(rt, "sound: ", sound(s) as u64)
+    say(rt, b"sound: ", sound(s) as u64)
 }
 
 // 16 predecessors.
 fn slots(rt: &impl Print, s: &mut [u8], list: &[u8]) -> io::Result<()> {
-    say(rt, "fresh: ", store::make_fresh(s, 512) as u64)?;
-    say(rt, "17 adds: ", starts(s, 17) as u64)?;
-    say(rt, "17 predecessors: ", put_listing(s, 20, list, 17) as u64)?;
-    say(rt, "16 predecessors: ", put_listing(s, 20, list, 16) as u64)?;
-    say(rt, "sound: ", sound(s) as u64)
+    say(rt, b"fresh: ", store::make_fresh(s, 512) as u64)?;
+    say(rt, b"17 adds: ", starts(s, 17) as u64)?;
+    say(
+        rt,
+        b"17 predecessors: ",
+        put_listing(s, 20, list, 17) as u64,
+    )?;
+    say(
+        rt,
+        b"16 predecessors: ",
+        put_listing(s, 20, list, 16) as u64,
+    )?;
+    say(rt, b"sound: ", sound(s) as u64)
 }
 
 // A byte turned over, of digests, members and kinds.
 fn damages(rt: &impl Print, s: &mut [u8]) -> io::Result<()> {
-    say(rt, "an add's member: ", turned(s, 96) as u64)?;
+    say(rt, b"an add's member: ", turned(s, 96) as u64)?;
     say(
         rt,
-        "a digest that nothing lists: ",
+        b"a digest that nothing lists: ",
         turned(s, 64 + 98 * 17) as u64,
     )?;
-    say(rt, "a digest that is listed: ", turned(s, 64) as u64)?;
-    say(rt, "an update's member: ", turned(s, 96 + 98 * 17) as u64)?;
-    say(rt, "a kind: ", turned(s, 128) as u64)
+    say(rt, b"a digest that is listed: ", turned(s, 64) as u64)?;
+    say(rt, b"an update's member: ", turned(s, 96 + 98 * 17) as u64)?;
+    say(rt, b"a kind: ", turned(s, 128) as u64)
 }
 
 // A byte turned over, of the slots and of what no record has.
 fn more_damages(rt: &impl Print, s: &mut [u8]) -> io::Result<()> {
     say(
         rt,
-        "a number of predecessors: ",
+        b"a number of predecessors: ",
         turned(s, 129 + 98 * 17) as u64,
     )?;
     say(
         rt,
-        "a predecessor's place: ",
+        b"a predecessor's place: ",
         turned(s, 130 + 98 * 17) as u64,
     )?;
-    say(rt, "a free slot: ", turned(s, 130) as u64)?;
+    say(rt, b"a free slot: ", turned(s, 130) as u64)?;
     say(
         rt,
-        "a byte after the last record: ",
+        b"a byte after the last record: ",
         turned(s, 64 + 98 * 18) as u64,
     )?;
-    say(rt, "the last byte: ", turned(s, 50239) as u64)
+    say(rt, b"the last byte: ", turned(s, 50239) as u64)
 }
 
 // A byte turned over, of the store's first bytes; then none.
 fn first_bytes(rt: &impl Print, s: &mut [u8]) -> io::Result<()> {
-    say(rt, "a reserved byte: ", turned(s, 2) as u64)?;
-    say(rt, "the count: ", turned(s, 0) as u64)?;
-    say(rt, "none: ", sound(s) as u64)
+    say(rt, b"a reserved byte: ", turned(s, 2) as u64)?;
+    say(rt, b"the count: ", turned(s, 0) as u64)?;
+    say(rt, b"none: ", sound(s) as u64)
 }
 
 fn main(rt: HostRuntime) -> io::Result<()> {

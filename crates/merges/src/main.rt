@@ -13,13 +13,13 @@ fn put(s: &mut [u8], n: u8, kind: u8, member: u8, list: &[u8]) {
 fn heads(rt: &impl Print, s: &[u8]) -> io::Result<()> {
     let mut out = [170u8; 512];
     let a = predecessors::heads(s, &mut out);
-    text(rt, " heads:")?;
+    text(rt, b" heads:")?;
     listed(rt, a.number, a.count, &out)
 }
 
 fn merged(
     rt: &impl Print,
-    label: &str,
+    label: &[u8],
     s: &mut [u8],
     other: &[u8],
     before: &mut [u8],
@@ -28,7 +28,7 @@ fn merged(
     let r = operation::merge(s, other);
     text(rt, label)?;
     number(rt, byte(r))?;
-    say(rt, " untouched", bit(same(s, before)))
+    say(rt, b" untouched", bit(same(s, before)))
 }
 
 // 1, 2(1)
@@ -56,9 +56,9 @@ fn branch(s: &mut [u8]) {
 fn into_empty(rt: &impl Print, a: &mut [u8], b: &mut [u8], before: &mut [u8]) -> io::Result<()> {
     operation::fresh(a);
     graph_k(b);
-    merged(rt, "into an empty store:", a, b, before)?;
+    merged(rt, b"into an empty store:", a, b, before)?;
     heads(rt, a)?;
-    merged(rt, "the same again:", a, b, before)
+    merged(rt, b"the same again:", a, b, before)
 }
 
 fn another_branch(
@@ -68,14 +68,14 @@ fn another_branch(
     before: &mut [u8],
 ) -> io::Result<()> {
     branch(b);
-    merged(rt, "another branch:", a, b, before)?;
+    merged(rt, b"another branch:", a, b, before)?;
     heads(rt, a)
 }
 
 fn other_way(rt: &impl Print, a: &mut [u8], b: &mut [u8], before: &mut [u8]) -> io::Result<()> {
     graph_k(a);
     branch(b);
-    merged(rt, "the other way round:", b, a, before)?;
+    merged(rt, b"the other way round:", b, a, before)?;
     heads(rt, b)
 }
 
@@ -89,7 +89,7 @@ fn another_member(
     operation::fresh(b);
     put(b, 7, 0, 0, b"");
     put(b, 1, 0, 9, b"");
-    merged(rt, "another member:", a, b, before)
+    merged(rt, b"another member:", a, b, before)
 }
 
 fn another_set(rt: &impl Print, a: &mut [u8], b: &mut [u8], before: &mut [u8]) -> io::Result<()> {
@@ -97,7 +97,7 @@ fn another_set(rt: &impl Print, a: &mut [u8], b: &mut [u8], before: &mut [u8]) -
     pair(b);
     put(a, 3, 1, 0, &digest(2));
     put(b, 3, 1, 0, &digest(1));
-    merged(rt, "another set:", a, b, before)
+    merged(rt, b"another set:", a, b, before)
 }
 
 fn another_kind(rt: &impl Print, a: &mut [u8], b: &mut [u8], before: &mut [u8]) -> io::Result<()> {
@@ -105,15 +105,15 @@ fn another_kind(rt: &impl Print, a: &mut [u8], b: &mut [u8], before: &mut [u8]) 
     operation::fresh(b);
     put(b, 1, 0, 0, b"");
     put(b, 2, 2, 0, &digest(1));
-    merged(rt, "another kind:", a, b, before)
+    merged(rt, b"another kind:", a, b, before)
 }
 
 // Damaged comes before Clash: the stores clash.
 fn damaged(rt: &impl Print, a: &mut [u8], b: &mut [u8], before: &mut [u8]) -> io::Result<()> {
-    merged(rt, "a second store of no bytes:", a, b"", before)?;
+    merged(rt, b"a second store of no bytes:", a, b"", before)?;
     spoil(b);
-    merged(rt, "the second damaged:", a, b, before)?;
-    merged(rt, "the first damaged:", b, a, before)
+    merged(rt, b"the second damaged:", a, b, before)?;
+    merged(rt, b"the first damaged:", b, a, before)
 }
 
 fn spoil(s: &mut [u8]) {
@@ -144,13 +144,13 @@ fn within(rt: &impl Print, a: &mut [u8], b: &mut [u8], before: &mut [u8]) -> io:
     operation::fresh(b);
     fill(a, 0, 500);
     fill(b, 490, 512);
-    merged(rt, "a union of 512:", a, b, before)
+    merged(rt, b"a union of 512:", a, b, before)
 }
 
 fn beyond(rt: &impl Print, a: &mut [u8], b: &mut [u8], before: &mut [u8]) -> io::Result<()> {
-    merged(rt, "a part of a full store:", a, b, before)?;
+    merged(rt, b"a part of a full store:", a, b, before)?;
     fill(b, 512, 513);
-    merged(rt, "a union of 513:", a, b, before)
+    merged(rt, b"a union of 513:", a, b, before)
 }
 
 // Clash comes before Full.
@@ -158,7 +158,7 @@ fn clash_beyond(rt: &impl Print, a: &mut [u8], b: &mut [u8], before: &mut [u8]) 
     operation::fresh(b);
     fill(b, 600, 601);
     operation::add_op(b, &wide(7), 0, &digest(9), b"", before);
-    merged(rt, "a clash and a union of 513:", a, b, before)
+    merged(rt, b"a clash and a union of 513:", a, b, before)
 }
 
 fn main(rt: HostRuntime) -> io::Result<()> {

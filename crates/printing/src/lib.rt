@@ -4,13 +4,14 @@
 ghost use Rattle.std.specs.Prelude.{◌≤◌, length};
 
 use std::io;
+use std::io::Write;
 
 pub fn digest(n: u8) -> [u8; 32] {
     [n; 32]
 }
 
-pub fn text(rt: &impl Print, t: &str) -> io::Result<()> {
-    print!(rt; "{t}")
+pub fn text(rt: &impl Print, t: &[u8]) -> io::Result<()> {
+    io::writer(rt).write_all(t)
 }
 
 // Prints a space and a number.
@@ -18,8 +19,10 @@ pub fn number(rt: &impl Print, n: u64) -> io::Result<()> {
     print!(rt; " {n}")
 }
 
-pub fn say(rt: &impl Print, label: &str, n: u64) -> io::Result<()> {
-    println!(rt; "{label} {n}")
+pub fn say(rt: &impl Print, label: &[u8], n: u64) -> io::Result<()> {
+    text(rt, label)?;
+    number(rt, n)?;
+    text(rt, b"\n")
 }
 
 pub fn byte(x: u8) -> u64 {
@@ -54,17 +57,17 @@ pub fn expand(digits: &[u8], list: &mut [u8]) -> usize
 // Prints a number, how many digests are listed, the value of each, and whether the bytes past them are untouched.
 pub fn listed(rt: &impl Print, n: u8, count: usize, out: &[u8]) -> io::Result<()> {
     number(rt, byte(n))?;
-    text(rt, " listed")?;
+    text(rt, b" listed")?;
     for k in 0..count {
         if out.len() / 32 <= k {
-            return text(rt, " too many\n");
+            return text(rt, b" too many\n");
         }
         number(rt, byte(out[32 * k]))?;
     }
     if untouched(out, 32 * count) {
-        text(rt, "\n")
+        text(rt, b"\n")
     } else {
-        text(rt, " rest changed\n")
+        text(rt, b" rest changed\n")
     }
 }
 

@@ -19,17 +19,17 @@ fn of<'a>(t: &'a [u8], n: u8) -> &'a [u8] {
 }
 
 // Prints a number, a count, and whether an output is untouched.
-fn answered(rt: &impl Print, label: &str, n: u8, count: usize, out: &[u8]) -> io::Result<()> {
+fn answered(rt: &impl Print, label: &[u8], n: u8, count: usize, out: &[u8]) -> io::Result<()> {
     text(rt, label)?;
     number(rt, byte(n))?;
     number(rt, count as u64)?;
-    say(rt, " untouched", bit(untouched(out, 0)))
+    say(rt, b" untouched", bit(untouched(out, 0)))
 }
 
 // Offers an operation; prints number, known, count, and whether store and output are untouched.
 fn offer(
     rt: &impl Print,
-    label: &str,
+    label: &[u8],
     s: &mut [u8],
     before: &[u8],
     d: &[u8],
@@ -42,7 +42,7 @@ fn offer(
     text(rt, label)?;
     number(rt, bit(a.known))?;
     number(rt, bit(same(s, before)))?;
-    answered(rt, ":", a.number, a.count, out)
+    answered(rt, b":", a.number, a.count, out)
 }
 
 // Offers that have the wrong shape.
@@ -55,7 +55,7 @@ fn misshapen(
 ) -> io::Result<()> {
     offer(
         rt,
-        "a digest of 31 bytes",
+        b"a digest of 31 bytes",
         s,
         before,
         part(t, 0, 31),
@@ -66,7 +66,7 @@ fn misshapen(
     )?;
     offer(
         rt,
-        "a member of 31 bytes",
+        b"a member of 31 bytes",
         s,
         before,
         of(t, 9),
@@ -77,7 +77,7 @@ fn misshapen(
     )?;
     offer(
         rt,
-        "a list of 31 bytes",
+        b"a list of 31 bytes",
         s,
         before,
         of(t, 9),
@@ -88,7 +88,7 @@ fn misshapen(
     )?;
     offer(
         rt,
-        "kind 3",
+        b"kind 3",
         s,
         before,
         of(t, 9),
@@ -99,7 +99,7 @@ fn misshapen(
     )?;
     offer(
         rt,
-        "a remove with a member",
+        b"a remove with a member",
         s,
         before,
         of(t, 9),
@@ -121,7 +121,7 @@ fn unfit(
 ) -> io::Result<()> {
     offer(
         rt,
-        "17 copies of a digest",
+        b"17 copies of a digest",
         s,
         before,
         of(t, 9),
@@ -132,7 +132,7 @@ fn unfit(
     )?;
     offer(
         rt,
-        "a held digest, 16 copies",
+        b"a held digest, 16 copies",
         s,
         before,
         of(t, 2),
@@ -143,7 +143,7 @@ fn unfit(
     )?;
     offer(
         rt,
-        "an update of nothing",
+        b"an update of nothing",
         s,
         before,
         of(t, 9),
@@ -154,7 +154,7 @@ fn unfit(
     )?;
     offer(
         rt,
-        "a held digest, an update of nothing",
+        b"a held digest, an update of nothing",
         s,
         before,
         of(t, 2),
@@ -165,7 +165,7 @@ fn unfit(
     )?;
     offer(
         rt,
-        "an unheld predecessor",
+        b"an unheld predecessor",
         s,
         before,
         of(t, 9),
@@ -176,7 +176,7 @@ fn unfit(
     )?;
     offer(
         rt,
-        "an update without room for its list",
+        b"an update without room for its list",
         s,
         before,
         of(t, 9),
@@ -197,7 +197,7 @@ fn damaged_offers(
 ) -> io::Result<()> {
     offer(
         rt,
-        "a damaged store",
+        b"a damaged store",
         s,
         before,
         of(t, 9),
@@ -208,7 +208,7 @@ fn damaged_offers(
     )?;
     offer(
         rt,
-        "a damaged store, 17 digests",
+        b"a damaged store, 17 digests",
         s,
         before,
         of(t, 9),
@@ -219,7 +219,7 @@ fn damaged_offers(
     )?;
     offer(
         rt,
-        "a damaged store, a held digest",
+        b"a damaged store, a held digest",
         s,
         before,
         of(t, 1),
@@ -232,57 +232,57 @@ fn damaged_offers(
 
 fn heads(rt: &impl Print, s: &[u8], out: &mut [u8]) -> io::Result<()> {
     let a = predecessors::heads(s, out);
-    answered(rt, "heads:", a.number, a.count, out)
+    answered(rt, b"heads:", a.number, a.count, out)
 }
 
 fn nearest(rt: &impl Print, s: &[u8], list: &[u8], out: &mut [u8]) -> io::Result<()> {
     let a = operation::nearest_update_ancestors(s, list, out);
-    answered(rt, "nearest updates:", a.number, a.count, out)
+    answered(rt, b"nearest updates:", a.number, a.count, out)
 }
 
 fn preds(rt: &impl Print, s: &[u8], d: &[u8], out: &mut [u8]) -> io::Result<()> {
     let a = operation::predecessors_for(s, d, out);
-    answered(rt, "predecessors:", a.number, a.count, out)
+    answered(rt, b"predecessors:", a.number, a.count, out)
 }
 
 fn children(rt: &impl Print, s: &[u8], d: &[u8], out: &mut [u8]) -> io::Result<()> {
     let a = operation::children_of(s, d, out);
-    answered(rt, "children:", a.number, a.count, out)
+    answered(rt, b"children:", a.number, a.count, out)
 }
 
-fn answer(rt: &impl Print, label: &str, a: YesNo) -> io::Result<()> {
+fn answer(rt: &impl Print, label: &[u8], a: YesNo) -> io::Result<()> {
     text(rt, label)?;
     number(rt, byte(a.number))?;
-    say(rt, "", bit(a.yes))
+    say(rt, b"", bit(a.yes))
 }
 
 // Prints a call's number, and the length and first byte of the part that the call beside it gives.
-fn given(rt: &impl Print, label: &str, n: u8, p: &[u8]) -> io::Result<()> {
+fn given(rt: &impl Print, label: &[u8], n: u8, p: &[u8]) -> io::Result<()> {
     text(rt, label)?;
     number(rt, byte(n))?;
     number(rt, p.len() as u64)?;
     if 0 < p.len() {
         number(rt, byte(p[0]))?;
     }
-    text(rt, "\n")
+    text(rt, b"\n")
 }
 
 fn answers(rt: &impl Print, s: &[u8], m: &[u8], d: &[u8], list: &[u8]) -> io::Result<()> {
-    answer(rt, "held:", operation::contains_op_hash(s, d))?;
-    answer(rt, "all held:", operation::contains_all(s, list))?;
-    answer(rt, "chainable:", operation::is_chainable(s, d))?;
-    answer(rt, "single head:", operation::has_single_head(s))?;
-    answer(rt, "add before:", operation::has_add_before(s, m, d))
+    answer(rt, b"held:", operation::contains_op_hash(s, d))?;
+    answer(rt, b"all held:", operation::contains_all(s, list))?;
+    answer(rt, b"chainable:", operation::is_chainable(s, d))?;
+    answer(rt, b"single head:", operation::has_single_head(s))?;
+    answer(rt, b"add before:", operation::has_add_before(s, m, d))
 }
 
 fn values(rt: &impl Print, s: &[u8], d: &[u8]) -> io::Result<()> {
     let a = operation::depth(s, d);
-    text(rt, "depth:")?;
+    text(rt, b"depth:")?;
     number(rt, byte(a.number))?;
-    say(rt, "", a.depth as u64)?;
+    say(rt, b"", a.depth as u64)?;
     given(
         rt,
-        "member:",
+        b"member:",
         operation::added_member_number(s, d),
         operation::added_member(s, d),
     )
@@ -290,7 +290,7 @@ fn values(rt: &impl Print, s: &[u8], d: &[u8]) -> io::Result<()> {
 
 fn found<'a>(
     rt: &impl Print,
-    label: &str,
+    label: &[u8],
     first: &'a [u8],
     second: &'a [u8],
     d: &[u8],
@@ -310,25 +310,26 @@ fn finds<'a>(
     bad: &'a [u8],
     t: &[u8],
 ) -> io::Result<()> {
-    found(rt, "find in the first:", s, other, of(t, 2))?;
-    found(rt, "find in the second:", other, s, of(t, 2))?;
-    found(rt, "find in neither:", s, other, of(t, 9))?;
-    found(rt, "find, 31 bytes:", s, other, part(t, 64, 95))?;
-    found(rt, "find, the first damaged:", bad, s, of(t, 2))?;
-    found(rt, "find, the second damaged:", s, bad, of(t, 2))
+    found(rt, b"find in the first:", s, other, of(t, 2))?;
+    found(rt, b"find in the second:", other, s, of(t, 2))?;
+    found(rt, b"find in neither:", s, other, of(t, 9))?;
+    found(rt, b"find, 31 bytes:", s, other, part(t, 64, 95))?;
+    found(rt, b"find, the first damaged:", bad, s, of(t, 2))?;
+    found(rt, b"find, the second damaged:", s, bad, of(t, 2))
 }
 
 // Every question, with a member, a digest and a list.
 fn questions(
     rt: &impl Print,
-    label: &str,
+    label: &[u8],
     s: &[u8],
     m: &[u8],
     d: &[u8],
     list: &[u8],
     out: &mut [u8],
 ) -> io::Result<()> {
-    println!(rt; "{label}")?;
+    text(rt, label)?;
+    text(rt, b"\n")?;
     heads(rt, s, out)?;
     nearest(rt, s, list, out)?;
     preds(rt, s, d, out)?;
@@ -341,7 +342,7 @@ fn questions(
 fn inputs(rt: &impl Print, s: &[u8], t: &[u8], out: &mut [u8]) -> io::Result<()> {
     questions(
         rt,
-        "no room for a digest",
+        b"no room for a digest",
         s,
         of(t, 0),
         of(t, 2),
@@ -350,7 +351,7 @@ fn inputs(rt: &impl Print, s: &[u8], t: &[u8], out: &mut [u8]) -> io::Result<()>
     )?;
     questions(
         rt,
-        "a digest of 31 bytes",
+        b"a digest of 31 bytes",
         s,
         of(t, 0),
         part(t, 64, 95),
@@ -359,7 +360,7 @@ fn inputs(rt: &impl Print, s: &[u8], t: &[u8], out: &mut [u8]) -> io::Result<()>
     )?;
     questions(
         rt,
-        "a member of 31 bytes",
+        b"a member of 31 bytes",
         s,
         part(t, 0, 31),
         of(t, 1),
@@ -368,25 +369,33 @@ fn inputs(rt: &impl Print, s: &[u8], t: &[u8], out: &mut [u8]) -> io::Result<()>
     )?;
     questions(
         rt,
-        "513 digests",
+        b"513 digests",
         s,
         of(t, 0),
         of(t, 5),
         part(t, 0, 16416),
         out,
     )?;
-    questions(rt, "an unheld digest", s, of(t, 0), of(t, 9), of(t, 9), out)
+    questions(
+        rt,
+        b"an unheld digest",
+        s,
+        of(t, 0),
+        of(t, 9),
+        of(t, 9),
+        out,
+    )
 }
 
 fn fresh(rt: &impl Print, s: &mut [u8], out: &mut [u8]) -> io::Result<()> {
     answered(
         rt,
-        "fresh of the wrong length:",
+        b"fresh of the wrong length:",
         operation::fresh(out),
         0,
         out,
     )?;
-    say(rt, "fresh:", byte(operation::fresh(s)))
+    say(rt, b"fresh:", byte(operation::fresh(s)))
 }
 
 fn put(s: &mut [u8], d: &[u8], kind: u8, m: &[u8], list: &[u8]) {
@@ -434,7 +443,7 @@ fn damaged_store(
     damage(s);
     copy(s, before);
     damaged_offers(rt, s, before, t, ones, out)?;
-    questions(rt, "a damaged store", s, of(t, 0), of(t, 1), of(t, 1), out)
+    questions(rt, b"a damaged store", s, of(t, 0), of(t, 1), of(t, 1), out)
 }
 
 fn main(rt: HostRuntime) -> io::Result<()> {

@@ -18,9 +18,9 @@ fn add(rt: &impl Print, s: &mut [u8], n: u8, kind: u8, digits: &[u8]) -> io::Res
         part(&list, 0, len),
         &mut out,
     );
-    text(rt, "add")?;
+    text(rt, b"add")?;
     number(rt, byte(n))?;
-    text(rt, ": known")?;
+    text(rt, b": known")?;
     number(rt, bit(a.known))?;
     listed(rt, a.number, a.count, &out)
 }
@@ -28,47 +28,47 @@ fn add(rt: &impl Print, s: &mut [u8], n: u8, kind: u8, digits: &[u8]) -> io::Res
 fn heads(rt: &impl Print, s: &[u8]) -> io::Result<()> {
     let mut out = [170u8; 512];
     let a = predecessors::heads(s, &mut out);
-    text(rt, "heads:")?;
+    text(rt, b"heads:")?;
     listed(rt, a.number, a.count, &out)?;
-    say(rt, "single head:", bit(operation::has_single_head(s).yes))
+    say(rt, b"single head:", bit(operation::has_single_head(s).yes))
 }
 
 fn children(rt: &impl Print, s: &[u8], n: u8) -> io::Result<()> {
     let mut out = [170u8; 512];
     let a = operation::children_of(s, &digest(n), &mut out);
-    text(rt, " children:")?;
+    text(rt, b" children:")?;
     listed(rt, a.number, a.count, &out)
 }
 
 fn preds(rt: &impl Print, s: &[u8], n: u8) -> io::Result<()> {
     let mut out = [170u8; 512];
     let a = operation::predecessors_for(s, &digest(n), &mut out);
-    text(rt, " predecessors:")?;
+    text(rt, b" predecessors:")?;
     listed(rt, a.number, a.count, &out)
 }
 
-fn nearest(rt: &impl Print, s: &[u8], digits: &str) -> io::Result<()> {
+fn nearest(rt: &impl Print, s: &[u8], digits: &[u8]) -> io::Result<()> {
     let mut list = [0u8; 544];
     let mut out = [170u8; 512];
-    let len = expand(digits.as_bytes(), &mut list);
+    let len = expand(digits, &mut list);
     let a = operation::nearest_update_ancestors(s, part(&list, 0, len), &mut out);
-    text(rt, "nearest updates of ")?;
+    text(rt, b"nearest updates of ")?;
     text(rt, digits)?;
-    text(rt, ":")?;
+    text(rt, b":")?;
     listed(rt, a.number, a.count, &out)
 }
 
 // What the questions about one digest answer.
 fn about(rt: &impl Print, s: &[u8], d: &[u8], n: u8) -> io::Result<()> {
     let depth = operation::depth(s, d);
-    text(rt, "about")?;
+    text(rt, b"about")?;
     number(rt, byte(n))?;
-    text(rt, ": held")?;
+    text(rt, b": held")?;
     number(rt, bit(operation::contains_op_hash(s, d).yes))?;
-    text(rt, ", depth")?;
+    text(rt, b", depth")?;
     number(rt, byte(depth.number))?;
     number(rt, depth.depth as u64)?;
-    say(rt, ", chainable", bit(operation::is_chainable(s, d).yes))
+    say(rt, b", chainable", bit(operation::is_chainable(s, d).yes))
 }
 
 fn all_about(rt: &impl Print, s: &[u8], n: u8) -> io::Result<()> {
@@ -78,14 +78,15 @@ fn all_about(rt: &impl Print, s: &[u8], n: u8) -> io::Result<()> {
 }
 
 // Makes a store fresh and begins a graph with an add.
-fn begin(rt: &impl Print, s: &mut [u8], label: &str) -> io::Result<()> {
-    println!(rt; "{label}")?;
+fn begin(rt: &impl Print, s: &mut [u8], label: &[u8]) -> io::Result<()> {
+    text(rt, label)?;
+    text(rt, b"\n")?;
     operation::fresh(s);
     add(rt, s, 1, 0, b"")
 }
 
 fn graph_with_skip(rt: &impl Print, s: &mut [u8]) -> io::Result<()> {
-    begin(rt, s, "1, 2(1), 3(2,1)")?;
+    begin(rt, s, b"1, 2(1), 3(2,1)")?;
     add(rt, s, 2, 1, b"1")?;
     add(rt, s, 3, 1, b"21")?;
     heads(rt, s)?;
@@ -93,7 +94,7 @@ fn graph_with_skip(rt: &impl Print, s: &mut [u8]) -> io::Result<()> {
 }
 
 fn graph_with_span(rt: &impl Print, s: &mut [u8]) -> io::Result<()> {
-    begin(rt, s, "1, 2(1), 3(2), 4(3,1)")?;
+    begin(rt, s, b"1, 2(1), 3(2), 4(3,1)")?;
     add(rt, s, 2, 1, b"1")?;
     add(rt, s, 3, 1, b"2")?;
     add(rt, s, 4, 1, b"31")?;
@@ -103,7 +104,7 @@ fn graph_with_span(rt: &impl Print, s: &mut [u8]) -> io::Result<()> {
 }
 
 fn graph_k(rt: &impl Print, s: &mut [u8]) -> io::Result<()> {
-    begin(rt, s, "1, 2(1), 3(1), 4(3)")?;
+    begin(rt, s, b"1, 2(1), 3(1), 4(3)")?;
     add(rt, s, 2, 1, b"1")?;
     add(rt, s, 3, 1, b"1")?;
     add(rt, s, 4, 1, b"3")?;
@@ -114,7 +115,7 @@ fn graph_k(rt: &impl Print, s: &mut [u8]) -> io::Result<()> {
 }
 
 fn graph_not_ascending(rt: &impl Print, s: &mut [u8]) -> io::Result<()> {
-    begin(rt, s, "1, 5(1), 2(5), 6(5,1,5,2)")?;
+    begin(rt, s, b"1, 5(1), 2(5), 6(5,1,5,2)")?;
     add(rt, s, 5, 1, b"1")?;
     add(rt, s, 2, 1, b"5")?;
     add(rt, s, 6, 1, b"5152")?;
@@ -124,13 +125,13 @@ fn graph_not_ascending(rt: &impl Print, s: &mut [u8]) -> io::Result<()> {
 }
 
 fn graph_of_two_adds(rt: &impl Print, s: &mut [u8]) -> io::Result<()> {
-    begin(rt, s, "adds 1 and 2")?;
+    begin(rt, s, b"adds 1 and 2")?;
     add(rt, s, 2, 0, b"")?;
     heads(rt, s)
 }
 
 fn graph_of_updates(rt: &impl Print, s: &mut [u8]) -> io::Result<()> {
-    begin(rt, s, "1, 2u(1), 3u(2), 4u(2), 5(4,3), 6u(5)")?;
+    begin(rt, s, b"1, 2u(1), 3u(2), 4u(2), 5(4,3), 6u(5)")?;
     add(rt, s, 2, 2, b"1")?;
     add(rt, s, 3, 2, b"2")?;
     add(rt, s, 4, 2, b"2")?;
@@ -142,9 +143,9 @@ fn chains(rt: &impl Print, s: &[u8]) -> io::Result<()> {
     about(rt, s, &digest(2), 2)?;
     about(rt, s, &digest(3), 3)?;
     about(rt, s, &digest(6), 6)?;
-    nearest(rt, s, "1")?;
-    nearest(rt, s, "345")?;
-    nearest(rt, s, "9")
+    nearest(rt, s, b"1")?;
+    nearest(rt, s, b"345")?;
+    nearest(rt, s, b"9")
 }
 
 // A digest of its own for each number.
@@ -175,32 +176,32 @@ fn fill(rt: &impl Print, s: &mut [u8]) -> io::Result<()> {
         r = follow(s, &d, 2, &before);
         before = d;
     }
-    text(rt, "updates until one is refused:")?;
+    text(rt, b"updates until one is refused:")?;
     number(rt, n as u64)?;
-    say(rt, ", refusal", byte(r))
+    say(rt, b", refusal", byte(r))
 }
 
 // A new operation on a full store; whether store and output are untouched.
 fn on_full_new(rt: &impl Print, s: &mut [u8], before: &[u8]) -> io::Result<()> {
     let mut out = [170u8; 32];
     let a = operation::add_op(s, &digest(9), 2, &digest(0), &wide(5), &mut out);
-    text(rt, "an update on a full store:")?;
+    text(rt, b"an update on a full store:")?;
     number(rt, byte(a.number))?;
     number(rt, a.count as u64)?;
     number(rt, bit(same(s, before)))?;
-    say(rt, "", bit(untouched(&out, 0)))
+    say(rt, b"", bit(untouched(&out, 0)))
 }
 
 // A held digest, and an unheld predecessor, on a full store.
 fn on_full(rt: &impl Print, s: &mut [u8]) -> io::Result<()> {
     let mut out = [170u8; 32];
     let a = operation::add_op(s, &wide(5), 0, &digest(0), b"", &mut out);
-    text(rt, "a held digest on a full store:")?;
+    text(rt, b"a held digest on a full store:")?;
     number(rt, byte(a.number))?;
-    say(rt, "", bit(a.known))?;
+    say(rt, b"", bit(a.known))?;
     say(
         rt,
-        "an unheld predecessor on a full store:",
+        b"an unheld predecessor on a full store:",
         byte(follow(s, &digest(9), 1, &digest(8))),
     )
 }

@@ -16,7 +16,7 @@ fn put(s: &mut [u8], n: u8, kind: u8, digits: &[u8]) {
 }
 
 // The marked digests, ascending.
-fn set(rt: &impl Print, label: &str, s: &[u8], marks: &[u8]) -> io::Result<()>
+fn set(rt: &impl Print, label: &[u8], s: &[u8], marks: &[u8]) -> io::Result<()>
     requires ready { Ready s.now (length marks.now) }
     requires ready_2 { Ready s.now 512 }
 {
@@ -32,7 +32,7 @@ fn heads(rt: &impl Print, s: &[u8]) -> io::Result<()>
 {
     let mut marks = [0u8; 512];
     walk::mark_heads(s, &mut marks);
-    set(rt, "heads:", s, &marks)
+    set(rt, b"heads:", s, &marks)
 }
 
 fn chainable(rt: &impl Print, s: &[u8]) -> io::Result<()>
@@ -40,7 +40,7 @@ fn chainable(rt: &impl Print, s: &[u8]) -> io::Result<()>
 {
     let mut marks = [0u8; 512];
     walk::chainable(s, &mut marks);
-    set(rt, "chainable:", s, &marks)
+    set(rt, b"chainable:", s, &marks)
 }
 
 // What is at or before the digests of a list; how many of them aren't held.
@@ -52,9 +52,9 @@ fn past(rt: &impl Print, s: &[u8], digits: &[u8]) -> io::Result<()>
     let len = expand(digits, &mut list);
     let missing = walk::mark_held(s, &list[..len], &mut marks);
     walk::past(s, &mut marks);
-    text(rt, "missing")?;
+    text(rt, b"missing")?;
     number(rt, missing as u64)?;
-    set(rt, ", at or before:", s, &marks)
+    set(rt, b", at or before:", s, &marks)
 }
 
 fn nearest(rt: &impl Print, s: &[u8], digits: &[u8]) -> io::Result<()>
@@ -65,7 +65,7 @@ fn nearest(rt: &impl Print, s: &[u8], digits: &[u8]) -> io::Result<()>
     let len = expand(digits, &mut list);
     walk::mark_held(s, &list[..len], &mut marks);
     walk::nearest(s, &mut marks);
-    set(rt, "nearest updates:", s, &marks)
+    set(rt, b"nearest updates:", s, &marks)
 }
 
 // The children of a digest.
@@ -76,9 +76,9 @@ fn children(rt: &impl Print, s: &[u8], n: u8) -> io::Result<()>
     let mut marks = [0u8; 512];
     if let Found::At(i) = walk::place_of(s, &d) {
         walk::children(s, i, &mut marks);
-        text(rt, "of")?;
+        text(rt, b"of")?;
         number(rt, n as u64)?;
-        set(rt, " children:", s, &marks)?;
+        set(rt, b" children:", s, &marks)?;
     }
     Ok(())
 }
@@ -93,7 +93,7 @@ fn add_before(rt: &impl Print, s: &[u8], n: u8) -> io::Result<()>
     if let Found::At(i) = walk::place_of(s, &d) {
         say(
             rt,
-            "add before:",
+            b"add before:",
             bit(walk::add_before(s, i, &member, &mut marks)),
         )?;
     }
@@ -106,14 +106,14 @@ fn wide(x: u16) -> u64 {
 
 // Prints the first c depths.
 fn depths(rt: &impl Print, depths: &[u16], c: usize) -> io::Result<()> {
-    text(rt, "depths:")?;
+    text(rt, b"depths:")?;
     for k in 0..c {
         if depths.len() <= k {
             return Ok(());
         }
         number(rt, wide(depths[k]))?;
     }
-    text(rt, "\n")
+    text(rt, b"\n")
 }
 
 // All operations by depth, then digest; and their depths in order of admission.
@@ -128,7 +128,7 @@ fn by_depth(rt: &impl Print, s: &[u8]) -> io::Result<()>
     walk::depths(s, &mut deep);
     walk::fill(&mut marks, n, 1);
     let a = order::write_marked(s, &deep, &marks, &mut places, &mut out);
-    text(rt, "by depth:")?;
+    text(rt, b"by depth:")?;
     listed(rt, a.number, a.count, &out)?;
     depths(rt, &deep, n)
 }
@@ -148,22 +148,23 @@ fn walks(rt: &impl Print, s: &[u8], digits: &[u8]) -> io::Result<()> {
 }
 
 // Makes a store fresh and begins a graph with an add.
-fn begin(rt: &impl Print, s: &mut [u8], label: &str) -> io::Result<()> {
-    println!(rt; "{label}")?;
+fn begin(rt: &impl Print, s: &mut [u8], label: &[u8]) -> io::Result<()> {
+    text(rt, label)?;
+    text(rt, b"\n")?;
     admission::fresh(s);
     put(s, 1, 0, b"");
     Ok(())
 }
 
 fn graph_with_skip(rt: &impl Print, s: &mut [u8]) -> io::Result<()> {
-    begin(rt, s, "1, 2(1), 3(2,1)")?;
+    begin(rt, s, b"1, 2(1), 3(2,1)")?;
     put(s, 2, 1, b"1");
     put(s, 3, 1, b"21");
     walks(rt, s, b"2")
 }
 
 fn graph_with_span(rt: &impl Print, s: &mut [u8]) -> io::Result<()> {
-    begin(rt, s, "1, 2(1), 3(2), 4(3,1)")?;
+    begin(rt, s, b"1, 2(1), 3(2), 4(3,1)")?;
     put(s, 2, 1, b"1");
     put(s, 3, 1, b"2");
     put(s, 4, 1, b"31");
@@ -171,7 +172,7 @@ fn graph_with_span(rt: &impl Print, s: &mut [u8]) -> io::Result<()> {
 }
 
 fn graph_k(rt: &impl Print, s: &mut [u8]) -> io::Result<()> {
-    begin(rt, s, "1, 2(1), 3(1), 4(3)")?;
+    begin(rt, s, b"1, 2(1), 3(1), 4(3)")?;
     put(s, 2, 1, b"1");
     put(s, 3, 1, b"1");
     put(s, 4, 1, b"3");
@@ -180,7 +181,7 @@ fn graph_k(rt: &impl Print, s: &mut [u8]) -> io::Result<()> {
 }
 
 fn graph_not_ascending(rt: &impl Print, s: &mut [u8]) -> io::Result<()> {
-    begin(rt, s, "1, 5(1), 2(5), 4(1), 3(1)")?;
+    begin(rt, s, b"1, 5(1), 2(5), 4(1), 3(1)")?;
     put(s, 5, 1, b"1");
     put(s, 2, 1, b"5");
     put(s, 4, 1, b"1");
@@ -189,13 +190,13 @@ fn graph_not_ascending(rt: &impl Print, s: &mut [u8]) -> io::Result<()> {
 }
 
 fn graph_of_two_adds(rt: &impl Print, s: &mut [u8]) -> io::Result<()> {
-    begin(rt, s, "adds 1 and 2")?;
+    begin(rt, s, b"adds 1 and 2")?;
     put(s, 2, 0, b"");
     walks(rt, s, b"")
 }
 
 fn graph_of_updates(rt: &impl Print, s: &mut [u8]) -> io::Result<()> {
-    begin(rt, s, "1, 2u(1), 3u(2), 4u(2), 5(3)")?;
+    begin(rt, s, b"1, 2u(1), 3u(2), 4u(2), 5(3)")?;
     put(s, 2, 2, b"1");
     put(s, 3, 2, b"2");
     put(s, 4, 2, b"2");
