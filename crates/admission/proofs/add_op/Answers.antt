@@ -1,11 +1,8 @@
 -- `admission::add_op` meets its contract.
 use Rattle.admission.proofs.Adding.{adds_refused, adds_known, add_room, add_few, add_offer, adds_new}
-use Rattle.admission.specs.Offers.{Tries}
 use Rattle.store.proofs.Ops.{sound_laid}
-use mathlib.Core.Bool.{false}
 use mathlib.Core.Path.{refl}
 use native.Mathlib.Omega.{arith}
-use lib.ListN.{replicate}
 use Rattle.admission.proofs.add_op.Goals as goal
 
 pub returns-then-tried-ne0 : goal.returns-then-tried-ne0
@@ -16,10 +13,10 @@ returns-then-tried c = adds_known (rw (c.if-tried-ne0.false, c.if-tried.true) at
 
 pub append-requires : goal.append-requires
 append-requires c =
-    let new : let a = c.args in Tries a.store.now a.digest.now a.kind a.member.now a.predecessors.now (replicate 16 0) c.trial-tried.new.places a.chainable.now c.trial-tried.new.out 0 false c.trial-tried.result.slots c.trial-tried.result.count = rw (c.if-tried-ne0.false, c.if-tried.false) at c.trial-tried.ensures.0 in
-    let T = new in record { ops_bound = (omega arith, omega arith, add_few T); laid = sound_laid (T.sound refl); s_bound = add_room T; offer = add_offer T (omega arith) }
+    let T = rw (c.if-tried-ne0.false, c.if-tried.false) at c.trial-tried.ensures.0 in
+    record { ops_bound = (omega arith, omega arith, add_few T); laid = sound_laid (T.sound refl); s_bound = add_room T; offer = add_offer T (omega arith) }
 
 pub returns : goal.returns
 returns c =
-    let new : let a = c.args in Tries a.store.now a.digest.now a.kind a.member.now a.predecessors.now (replicate 16 0) c.trial-tried.new.places a.chainable.now c.trial-tried.new.out 0 false c.trial-tried.result.slots c.trial-tried.result.count = rw (c.if-tried-ne0.false, c.if-tried.false) at c.trial-tried.ensures.0 in
-    adds_new (new) (record { small = λ j. omega (arith, c.shared_slice_known-1.given j) }) (record { small = λ j. omega (arith, c.shared_slice_known-2-1.given j) }) c.append.ensures
+    adds_new (rw (c.if-tried-ne0.false, c.if-tried.false) at c.trial-tried.ensures.0) (record { small = λ j. omega (arith, c.shared_slice_known-1.given j) })
+    (record { small = λ j. omega (arith, c.shared_slice_known-2-1.given j) }) c.append.ensures
