@@ -9,14 +9,23 @@ use Rattle.rules.specs.Answers.{Put, Listed}
 use Rattle.rules.specs.Bytes.{row}
 use Rattle.rules.specs.Graph.{Held, Child}
 use Rattle.rules.specs.Lists.{◌∈◌, SetOf}
-use Rattle.rules.proofs.Answers.{listed_past, listed_whole, listed_short}
+use Rattle.rules.specs.Small.{digest_refusals}
+use Rattle.rules.specs.Table.{limits}
+use Rattle.rules.proofs.Answers.{listed_past, listed_whole, listed_short, listed_none}
 use Rattle.rules.proofs.Bytes.{row_same}
-use Rattle.rules.proofs.First.{None}
+use Rattle.rules.proofs.First.{None, Apart}
 use Rattle.rules.proofs.Formed.{closed}
+use Rattle.refusal.specs.Damage.{Damaged, Tested}
+use Rattle.refusal.proofs.Refusals.{tested_none, digest_whole}
+use Rattle.store.specs.Answers.{Looked}
 use Rattle.store.specs.Layout.{count_of, digest_at, preds_at, pred_at, op_of, ops_of}
+use Rattle.store.specs.Sound.{Sound}
+use Rattle.store.specs.declared.Found.{Found}
+use Rattle.store.specs.declared.Found.TheVariants.{Nothing}
 use Rattle.store.proofs.Ops.{sound_checked, checked_proper}
 use Rattle.walk.specs.Marks.{Ready, Tells, Front}
-use Rattle.walk.proofs.Places.{ready_formed, op_at_lem, op_here}
+use Rattle.walk.proofs.Painting.{large_ready}
+use Rattle.walk.proofs.Places.{ready_formed, op_at_lem, op_here, looked_unheld}
 use Rattle.order.specs.Sorted.{digests_at, WroteMarked}
 use Rattle.order.specs.declared.ListAnswer.{ListAnswer}
 use Rattle.order.proofs.Ordered.{wrote_listed}
@@ -25,6 +34,14 @@ use Rattle.order.proofs.Sorting.{digests_length}
 -- the held digests that marks tell of, where nothing is refused
 pub marked_listed : {rs : List (ℕ × Type 0)} {P : ℕ → Type 0} {s m h t o o' : List ℕ} {r : ℕ} {a : ListAnswer} → None rs → Ready s r → Tells s P m → ((x : ℕ) → P x → Held (ops_of s) x) → WroteMarked s [] m h t o o' a → Listed rs P o o' a.number a.count
 marked_listed n R T H w = listed_past n (wrote_listed R w.sorted T H (λ j. refl) w.wrote)
+
+-- the same, where a test refuses nothing
+pub tested_listed : {rs : List (ℕ × Type 0)} {P : ℕ → Type 0} {s m h t o o' : List ℕ} {n : ℕ} {a : ListAnswer} → Apart 0 rs → Tested rs (Sound limits s) n → n ≡ 0 → Tells s P m → ((x : ℕ) → P x → Held (ops_of s) x) → WroteMarked s [] m h t o o' a → Listed rs P o o' a.number a.count
+tested_listed A T z M H w = marked_listed (tested_none A z T) (large_ready (T.passed z)) M H w
+
+-- a digest that isn't refused has 32 bytes
+pub tested_whole : (s d : List ℕ) {n : ℕ} → Tested (digest_refusals (Damaged s) d) (Sound limits s) n → n ≡ 0 → 32 ≤ length d
+tested_whole s d T z = omega (arith, digest_whole (Damaged s) d (tested_none (omega arith) z T))
 
 module _ {s : List ℕ} {r : ℕ} (R : Ready s r) where
   -- nothing lists a digest that isn't held
@@ -50,3 +67,9 @@ module _ {s : List ℕ} {r : ℕ} (R : Ready s r) where
 
     pub preds_short : {o : List ℕ} → length o < 32 * c → Listed [] (λ p. Child (ops_of s) p d) o o 9 0
     preds_short b = listed_short preds_set (omega (arith, digests_length s h' c))
+
+-- where looking up finds nothing, there are no children
+pub childless : {rs : List (ℕ × Type 0)} {s o : List ℕ} {n : ℕ} → Apart 0 rs → Tested rs (Sound limits s) n → n ≡ 0 → (f : Found) (d : ℕ) → Looked f s (count_of s) d → f ≡ Nothing → Listed rs (Child (ops_of s) d) o o 0 0
+childless A T z f d F e =
+    let R = large_ready (T.passed z) in
+    listed_past (tested_none A z T) (listed_none (unlisted R (looked_unheld R f d F e)))

@@ -15,7 +15,7 @@ use Rattle.rules.proofs.Bytes.{row_length, row_at, row_same, row_none, row_more}
 use Rattle.rules.proofs.Merge.{missing_has, missing_lacks}
 use Rattle.store.specs.Layout.{count_of, digest_at, member_at, kind_at, preds_at, pred_at, op_of, ops_of}
 use Rattle.walk.specs.Marks.{Ready}
-use Rattle.walk.proofs.Places.{held_at, one_place}
+use Rattle.walk.proofs.Places.{held_at, one_place, op_at_lem}
 use Rattle.merging.specs.declared.Compared.{Compared}
 use Rattle.merging.specs.declared.Compared.TheVariants.{Clashes, Lacks}
 use Rattle.merging.specs.Places.{SameSlots, Compares, PlaceIn, held, lacks, Placement, Agrees}
@@ -40,6 +40,18 @@ differs a b d n = go (ℕ_discrete a.kind b.kind) (ℕ_discrete a.member b.membe
     go (no x) y = kinds x
     go (yes k) (no x) = members x
     go (yes k) (yes m) = sets (λ e. n (op_same a b d k m e))
+
+-- operations of one digest that aren't the same clash
+pub clash_at : {s o : List ℕ} {r t k i : ℕ} → Ready s r → Ready o t → i < count_of o → (k < count_of s) × (digest_at s k ≡ digest_at o i) → ¬ (op_of s k ≡ op_of o i) → Clash (ops_of s) (ops_of o)
+clash_at {s} {o} {k = k} {i = i} R O l f n =
+    record {
+      one = op_of s k;
+      other = op_of o i;
+      here = op_at_lem R k f.0;
+      there = op_at_lem O i l;
+      named = f.1;
+      differ = differs (op_of s k) (op_of o i) f.1 n;
+    }
 
 -- a place more is written
 placed_more : {s o p q : List ℕ} {i v : ℕ} → i < length q → Placement s o p q i → PlaceIn s (digest_at o i) v → Placement s o p (set q i v) (i + 1)

@@ -5,7 +5,7 @@ use native.Mathlib.Omega.{arith}
 use native.Mathlib.Decide.{ℕ_discrete, dec_lt}
 use native.Mathlib.Nat.{add-zero}
 use mathlib.Core.Path.{◌≡◌, refl, sym, ◌∙◌, ap, subst}
-use mathlib.Core.Logic.{◌⊎◌, inl, inr}
+use mathlib.Core.Logic.{◌⊎◌, inl, inr, ⊎_elim}
 use mathlib.Core.List.{List, [], ◌∷◌, ◌++◌, append-nil, append_assoc}
 use lib.ListN.{length, get_or, set, length-set, length-append, get_or-append}
 use lib.Seq.{get_or-set_same, get_or-set_other, get_or-append_seam, ext_get_or}
@@ -23,9 +23,9 @@ use Rattle.store.specs.Layout.{count_of, digest_at, preds_at, pred_at, op_of, op
 use Rattle.store.specs.Sound.{Sound, admit, Admitted}
 use Rattle.store.proofs.Ops.{ops_length, ops_at, checked_proper, sound_checked}
 use Rattle.walk.specs.Marks.{Ready}
-use Rattle.walk.proofs.Painting.{large_ready, ready_few, ready_early}
+use Rattle.walk.proofs.Painting.{large_ready, ready_few, ready_early, ready_count}
 use Rattle.walk.proofs.Places.{ready_formed, held_at, one_place}
-use Rattle.merging.specs.Places.{PlaceIn, held, lacks, Taken}
+use Rattle.merging.specs.Places.{PlaceIn, held, lacks, AllPlaced, Taken}
 
 -- a store that holds more has the old operations at their places
 module _ (s t : List ℕ) (more : List Op) (e : ops_of t ≡ ops_of s ++ more) where
@@ -155,3 +155,23 @@ module _ {s o p t q : List ℕ} {i : ℕ} (l : i < count_of o) (T : Taken s o p 
 pub placed_cases : {s : List ℕ} {d v : ℕ} → count_of s ≤ 512 → PlaceIn s d v → ((v ≡ 65535) × (¬ Held (ops_of s) d)) ⊎ ((v < count_of s) × (digest_at s v ≡ d) × (¬ (v ≡ 65535)))
 placed_cases f (held b e) = inr (b, e, λ z. omega arith)
 placed_cases f (lacks n) = inl (refl, n)
+
+-- the next operation, whose place is known from comparing
+module _ {s o p t q : List ℕ} {i : ℕ} (S : Sound limits s × Ready o (length p)) (P : AllPlaced s o p) (l : i < count_of o) (T : Taken s o p t q i) where
+  next_placed : ((get_or q i 0 ≡ 65535) × (¬ Held (ops_of s) (digest_at o i))) ⊎ ((get_or q i 0 < count_of s) × (digest_at s (get_or q i 0) ≡ digest_at o i) × (¬ (get_or q i 0 ≡ 65535)))
+  next_placed = placed_cases (ready_count (large_ready S.0)) (rw (T.todo i (omega arith)) (P.each i l))
+
+  -- s holds it
+  pub next_has : ¬ (get_or q i 0 ≡ 65535) → Taken s o p t q (i + 1)
+  next_has n = ⊎_elim (λ x. absurd (n x.0)) (λ x. taken_has S.1 l T (get_or q i 0) refl x.0 x.1 (subst (Held (ops_of s)) x.1 (held_at (large_ready S.0) (get_or q i 0) x.0))) next_placed
+
+  -- s lacks it: there is room, and it is taken over
+  module _ (z : get_or q i 0 ≡ 65535) (n : ¬ Overfull limits (ops_of s) (ops_of o)) where
+    unheld : ¬ Held (ops_of s) (digest_at o i)
+    unheld = ⊎_elim (λ x. x.1) (λ x. absurd (x.2 z)) next_placed
+
+    pub next_room : count_of t < 512
+    next_room = taken_room l T n unheld
+
+    pub next_lacks : {u : List ℕ} → Admitted limits t (op_of o i) u → Taken s o p u (set q i (count_of t)) (i + 1)
+    next_lacks A = taken_lacks S.1 l T unheld next_room (omega (arith, l, T.size, S.1.enough)) A
