@@ -4,13 +4,14 @@ use Prim.Native.Nat.{ℕ, ◌+◌, ◌/◌, ◌-◌, ◌≤◌, ◌<◌}
 use native.Mathlib.Omega.{arith}
 use native.Mathlib.Nat.{zero-add}
 use mathlib.Core.Path.{◌≡◌, refl, sym, ◌∙◌, ap, subst}
+use mathlib.Core.Bool.{Bool}
 use mathlib.Core.Logic.{◌⊎◌, inl, inr}
 use mathlib.Core.List.Memᴰ
 use mathlib.Core.List.{List, [], ◌∷◌}
 use lib.ListN.{length, take, drop, length-take, length-drop}
 use lib.Seq.{get_or-take, get_or-drop}
 use lib.Dec.{eqb}
-use Rattle.rules.specs.Answers.{Says, Parted}
+use Rattle.rules.specs.Answers.{Says, Answered, Parted}
 use Rattle.rules.specs.Batches.{Mark}
 use Rattle.rules.specs.Bytes.{number_at, digest_of, digests_of}
 use Rattle.rules.specs.First.{First}
@@ -18,7 +19,7 @@ use Rattle.rules.specs.Graph.{Op, Held, Ancestor, near, far, InPast, itself, bef
 use Rattle.rules.specs.Lists.{◌∈◌}
 use Rattle.rules.specs.Small.{AllHeld, AddBefore, Added, digest_refusals}
 use Rattle.rules.specs.Table.{limits, OneDigest}
-use Rattle.rules.proofs.Answers.{says_same, says_equal}
+use Rattle.rules.proofs.Answers.{says_same, says_equal, answered_done}
 use Rattle.rules.proofs.Bytes.{number_same, row_in, in_row}
 use Rattle.rules.proofs.First.{None, first_unique}
 use Rattle.rules.proofs.Past.{held?}
@@ -44,6 +45,14 @@ pub digest_passed : (s d : List ℕ) {r : ℕ} → Tested (digest_refusals (Dama
 digest_passed s d t e =
     let n = tested_none (omega arith) e t in
     record { done = tested_done t e; none = n; ready = large_ready (t.passed e); whole = digest_whole (Damaged s) d n }
+
+-- a digest that a test doesn't refuse has its 32 bytes
+pub digest_room : {damaged good : Type 0} (d : List ℕ) {r : ℕ} → Tested (digest_refusals damaged d) good r → r ≡ 0 → 32 ≤ length d
+digest_room {damaged} d t e = omega (arith, digest_whole damaged d (tested_none (omega arith) e t))
+
+-- after a test that refuses nothing, yes or no is answered of good input
+pub answered_passed : {rs : List (ℕ × Type 0)} {good P : Type 0} {r : ℕ} {b : Bool} → Tested rs good r → r ≡ 0 → (good → Says b P) → Answered rs P 0 b
+answered_passed t e f = answered_done (tested_done t e) (f (t.passed e))
 
 -- what has an ancestor is held
 ancestor_held : {G : List Op} {a d : ℕ} → Ancestor G a d → Held G d

@@ -1,44 +1,26 @@
 -- `ask::has_add_before` meets its contract.
-use Prim.Native.Nat.{◌<◌}
+use Prim.Native.Nat.{ℕ, ◌≤◌}
 use native.Mathlib.Omega.{arith}
 use mathlib.Core.Path.{◌≡◌}
-use Rattle.rules.specs.Bytes.{digest_of}
-use Rattle.rules.specs.First.{First}
+use mathlib.Core.List.{List}
+use lib.ListN.{length}
 use Rattle.rules.specs.Small.{member_refusals}
-use Rattle.rules.specs.Table.{OneDigest}
-use Rattle.rules.proofs.Answers.{answered_done}
-use Rattle.store.specs.Layout.{count_of, digest_at}
-use Rattle.store.proofs.Tests.{looked_at}
-use Rattle.refusal.proofs.Refusals.{tested_done, tested_none, member_whole}
-use Rattle.refusal.specs.Damage.{Damaged}
-use Rattle.walk.specs.Marks.{Ready}
-use Rattle.walk.proofs.Painting.{large_ready, ready_bare}
+use Rattle.refusal.proofs.Refusals.{tested_none, member_whole}
+use Rattle.refusal.specs.Damage.{Tested}
+use Rattle.walk.proofs.Painting.{large_ready}
 use Rattle.walk.proofs.Places.{looked_unheld}
-use Rattle.ask.proofs.Answers.{add_before_held}
+use Rattle.ask.proofs.Answers.{answered_passed, add_before_held}
 use Rattle.ask.proofs.has_add_before.Goals as goal
 
-pub place_of-requires : goal.place_of-requires
-place_of-requires c =
-    let ready : Ready c.args.store.now 512 = large_ready (c.of_member-refused.ensures.passed c.if-refused-ne0.false) in
-    let both_whole : let w = c.args in OneDigest w.member.now × OneDigest w.digest.now = let w = c.args in member_whole (Damaged w.store.now) w.member.now w.digest.now (tested_none (omega arith) c.if-refused-ne0.false c.of_member-refused.ensures) in
-    record { ready = ready_bare (ready); in_bounds = omega (arith, (both_whole).1) }
+-- a member and a digest that a test doesn't refuse have their 32 bytes
+both_room : {damaged good : Type 0} (m d : List ℕ) {r : ℕ} → Tested (member_refusals damaged m d) good r → r ≡ 0 → (32 ≤ length m) × (32 ≤ length d)
+both_room {damaged} m d t e = let w = member_whole damaged m d (tested_none (omega arith) e t) in (omega (arith, w), omega (arith, w))
 
-pub add_before-requires : goal.add_before-requires
-add_before-requires c =
-    let ready : Ready c.args.store.now 512 = large_ready (c.of_member-refused.ensures.passed c.if-refused-ne0.false) in
-    let both_whole : let w = c.args in OneDigest w.member.now × OneDigest w.digest.now = let w = c.args in member_whole (Damaged w.store.now) w.member.now w.digest.now (tested_none (omega arith) c.if-refused-ne0.false c.of_member-refused.ensures) in
-    let place : let w = c.args in (c.in-At.i < count_of w.store.now) × (digest_at w.store.now c.in-At.i ≡ digest_of w.digest.now) = looked_at c.place_of.result _ _ _ _ c.place_of.ensures c.in-At.is in
-    record { ready = ready; p_bound = ((place).0, omega (arith, both_whole)) }
+pub place_of-requires-clause-in_bounds : goal.place_of-requires-clause-in_bounds
+place_of-requires-clause-in_bounds c = (both_room _ _ c.of_member-refused.ensures c.if-refused-ne0.false).1
 
-pub returns-in-At : goal.returns-in-At
-returns-in-At c =
-    let done : let w = c.args in First (member_refusals (Damaged w.store.now) w.member.now w.digest.now) 0 = tested_done c.of_member-refused.ensures c.if-refused-ne0.false in
-    let place : let w = c.args in (c.in-At.i < count_of w.store.now) × (digest_at w.store.now c.in-At.i ≡ digest_of w.digest.now) = looked_at c.place_of.result _ _ _ _ c.place_of.ensures c.in-At.is in
-    let p = place in
-    answered_done (done) (rw p.1 at c.add_before.ensures.0)
+pub add_before-requires-clause-p_bound : goal.add_before-requires-clause-p_bound
+add_before-requires-clause-p_bound c = (c.in-At.ensures.0, omega (arith, both_room _ _ c.of_member-refused.ensures c.if-refused-ne0.false))
 
 pub returns : goal.returns
-returns c =
-    let done : let w = c.args in First (member_refusals (Damaged w.store.now) w.member.now w.digest.now) 0 = tested_done c.of_member-refused.ensures c.if-refused-ne0.false in
-    let ready : Ready c.args.store.now 512 = large_ready (c.of_member-refused.ensures.passed c.if-refused-ne0.false) in
-    answered_done (done) (λ a. looked_unheld (ready) c.place_of.result _ c.place_of.ensures c.in_default.is (add_before_held a))
+returns c = answered_passed c.of_member-refused.ensures c.if-refused-ne0.false (λ S a. looked_unheld (large_ready S) c.place_of.result _ c.place_of.ensures c.in_default.is (add_before_held a))
