@@ -46,10 +46,6 @@ digest_passed s d t e =
     let n = tested_none (omega arith) e t in
     record { done = tested_done t e; none = n; ready = large_ready (t.passed e); whole = digest_whole (Damaged s) d n }
 
--- a digest that a test doesn't refuse has its 32 bytes
-pub digest_room : {damaged good : Type 0} (d : List ℕ) {r : ℕ} → Tested (digest_refusals damaged d) good r → r ≡ 0 → 32 ≤ length d
-digest_room {damaged} d t e = omega (arith, digest_whole damaged d (tested_none (omega arith) e t))
-
 -- after a test that refuses nothing, yes or no is answered of good input
 pub answered_passed : {rs : List (ℕ × Type 0)} {good P : Type 0} {r : ℕ} {b : Bool} → Tested rs good r → r ≡ 0 → (good → Says b P) → Answered rs P 0 b
 answered_passed t e f = answered_done (tested_done t e) (f (t.passed e))

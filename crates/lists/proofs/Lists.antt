@@ -9,14 +9,13 @@ use Rattle.rules.specs.Answers.{Put, Listed}
 use Rattle.rules.specs.Bytes.{row}
 use Rattle.rules.specs.Graph.{Held, Child}
 use Rattle.rules.specs.Lists.{◌∈◌, SetOf}
-use Rattle.rules.specs.Small.{digest_refusals}
 use Rattle.rules.specs.Table.{limits}
 use Rattle.rules.proofs.Answers.{listed_past, listed_whole, listed_short, listed_none}
 use Rattle.rules.proofs.Bytes.{row_same}
 use Rattle.rules.proofs.First.{None, Apart}
 use Rattle.rules.proofs.Formed.{closed}
-use Rattle.refusal.specs.Damage.{Damaged, Tested}
-use Rattle.refusal.proofs.Refusals.{tested_none, digest_whole}
+use Rattle.refusal.specs.Damage.{Tested}
+use Rattle.refusal.proofs.Refusals.{tested_none}
 use Rattle.store.specs.Answers.{Looked}
 use Rattle.store.specs.Layout.{count_of, digest_at, preds_at, pred_at, op_of, ops_of}
 use Rattle.store.specs.Sound.{Sound}
@@ -38,10 +37,6 @@ marked_listed n R T H w = listed_past n (wrote_listed R w.sorted T H (λ j. refl
 -- the same, where a test refuses nothing
 pub tested_listed : {rs : List (ℕ × Type 0)} {P : ℕ → Type 0} {s m h t o o' : List ℕ} {n : ℕ} {a : ListAnswer} → Apart 0 rs → Tested rs (Sound limits s) n → n ≡ 0 → Tells s P m → ((x : ℕ) → P x → Held (ops_of s) x) → WroteMarked s [] m h t o o' a → Listed rs P o o' a.number a.count
 tested_listed A T z M H w = marked_listed (tested_none A z T) (large_ready (T.passed z)) M H w
-
--- a digest that isn't refused has 32 bytes
-pub tested_whole : (s d : List ℕ) {n : ℕ} → Tested (digest_refusals (Damaged s) d) (Sound limits s) n → n ≡ 0 → 32 ≤ length d
-tested_whole s d T z = omega (arith, digest_whole (Damaged s) d (tested_none (omega arith) z T))
 
 module _ {s : List ℕ} {r : ℕ} (R : Ready s r) where
   -- nothing lists a digest that isn't held

@@ -1,6 +1,7 @@
 -- What a test that refuses nothing gives, and the refusals of a digest that must be held.
 -- Assumes nothing.
-use Prim.Native.Nat.{ℕ}
+use Prim.Native.Nat.{ℕ, ◌≤◌}
+use native.Mathlib.Omega.{arith}
 use native.Mathlib.Decide.{ℕ_discrete}
 use mathlib.Core.Path.{◌≡◌, subst}
 use mathlib.Core.Logic.{inl, inr}
@@ -32,6 +33,10 @@ whole d n = go (ℕ_discrete (length d) 32)
 
 pub digest_whole : (damaged : Type 0) (d : List ℕ) → None (digest_refusals damaged d) → OneDigest d
 digest_whole damaged d n = whole d n.0
+
+-- a digest that a test doesn't refuse has its 32 bytes
+pub digest_room : {damaged good : Type 0} (d : List ℕ) {r : ℕ} → Tested (digest_refusals damaged d) good r → r ≡ 0 → 32 ≤ length d
+digest_room {damaged} d t e = omega (arith, digest_whole damaged d (tested_none (omega arith) e t))
 
 pub member_whole : (damaged : Type 0) (m d : List ℕ) → None (member_refusals damaged m d) → OneDigest m × OneDigest d
 member_whole damaged m d n = (whole m (λ x. n.0 (inl x)), whole d (λ x. n.0 (inr x)))

@@ -4,7 +4,8 @@ use native.Mathlib.Omega.{arith}
 use mathlib.Core.Path.{sym, ◌∙◌}
 use Rattle.walk.proofs.Painting.{large_ready, ready_size}
 use Rattle.walk.proofs.Places.{looked_unheld}
-use Rattle.ask.proofs.Answers.{digest_room, digest_passed, added_here, added_kind, added_member, parted_none, parted_refused, parted_some}
+use Rattle.ask.proofs.Answers.{digest_passed, added_here, added_kind, added_member, parted_none, parted_refused, parted_some}
+use Rattle.refusal.proofs.Refusals.{digest_room}
 use Rattle.ask.proofs.added_member.Goals as goal
 use Rattle.ask.proofs.added_member.Goals.{in-At+else-kind_at-eq0, in_default}
 

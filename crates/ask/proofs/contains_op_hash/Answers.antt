@@ -1,7 +1,8 @@
 -- `ask::contains_op_hash` meets its contract.
 use Rattle.walk.proofs.Painting.{large_ready}
 use Rattle.walk.proofs.Places.{looked_held, looked_unheld}
-use Rattle.ask.proofs.Answers.{digest_room, answered_passed}
+use Rattle.ask.proofs.Answers.{answered_passed}
+use Rattle.refusal.proofs.Refusals.{digest_room}
 use Rattle.ask.proofs.contains_op_hash.Goals as goal
 
 pub place_of-requires-clause-in_bounds : goal.place_of-requires-clause-in_bounds

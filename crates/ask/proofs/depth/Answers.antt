@@ -1,10 +1,10 @@
 -- `ask::depth` meets its contract.
 use native.Mathlib.Omega.{arith}
 use Rattle.rules.proofs.Answers.{valued_refused, valued_done}
-use Rattle.refusal.proofs.Refusals.{held_refused, held_lacking, held_done}
+use Rattle.refusal.proofs.Refusals.{digest_room, held_refused, held_lacking, held_done}
 use Rattle.walk.proofs.Painting.{large_ready}
 use Rattle.walk.proofs.Places.{looked_held, looked_unheld}
-use Rattle.ask.proofs.Answers.{digest_room, digest_passed}
+use Rattle.ask.proofs.Answers.{digest_passed}
 use Rattle.ask.proofs.depth.Goals as goal
 
 pub returns-then-refused-ne0 : goal.returns-then-refused-ne0

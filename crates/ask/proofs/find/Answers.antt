@@ -11,11 +11,11 @@ use Rattle.rules.specs.Small.{HeldIn}
 use Rattle.rules.specs.Table.{limits}
 use Rattle.store.specs.Layout.{count_of, digest_at, ops_of}
 use Rattle.store.specs.Sound.{Sound}
-use Rattle.refusal.proofs.Refusals.{tested_done}
+use Rattle.refusal.proofs.Refusals.{digest_room, tested_done}
 use Rattle.refusal.specs.Damage.{Tested}
 use Rattle.walk.proofs.Painting.{large_ready, ready_size}
 use Rattle.walk.proofs.Places.{held_at, looked_unheld}
-use Rattle.ask.proofs.Answers.{digest_room, parted_none, parted_refused, parted_some}
+use Rattle.ask.proofs.Answers.{parted_none, parted_refused, parted_some}
 use Rattle.ask.proofs.find.Goals as goal
 
 -- after a test that refuses nothing, the digest's place in one of the stores gives its own bytes

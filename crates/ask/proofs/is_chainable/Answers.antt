@@ -2,7 +2,8 @@
 use native.Mathlib.Omega.{arith}
 use Rattle.walk.proofs.Painting.{large_ready}
 use Rattle.walk.proofs.Places.{looked_unheld}
-use Rattle.ask.proofs.Answers.{digest_room, answered_passed}
+use Rattle.ask.proofs.Answers.{answered_passed}
+use Rattle.refusal.proofs.Refusals.{digest_room}
 use Rattle.ask.proofs.is_chainable.Goals as goal
 
 pub place_of-requires-clause-in_bounds : goal.place_of-requires-clause-in_bounds

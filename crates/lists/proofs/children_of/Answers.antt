@@ -3,14 +3,15 @@ use native.Mathlib.Omega.{arith}
 use Rattle.rules.proofs.Answers.{listed_refused}
 use Rattle.store.proofs.Tests.{looked_at}
 use Rattle.walk.proofs.Painting.{large_ready}
-use Rattle.lists.proofs.Lists.{tested_listed, childless, tested_whole}
+use Rattle.lists.proofs.Lists.{tested_listed, childless}
+use Rattle.refusal.proofs.Refusals.{digest_room}
 use Rattle.lists.proofs.children_of.Goals as goal
 
 pub returns-then-refused-ne0 : goal.returns-then-refused-ne0
 returns-then-refused-ne0 c = listed_refused c.if-refused-ne0.true c.of_digest-refused.ensures.number
 
 pub place_of-requires-clause-in_bounds : goal.place_of-requires-clause-in_bounds
-place_of-requires-clause-in_bounds c = tested_whole c.args.store.now c.args.digest.now c.of_digest-refused.ensures c.if-refused-ne0.false
+place_of-requires-clause-in_bounds c = digest_room c.args.digest.now c.of_digest-refused.ensures c.if-refused-ne0.false
 
 pub write_set-requires : goal.write_set-requires
 write_set-requires c =

@@ -11,7 +11,7 @@ use Rattle.rules.specs.Small.{digest_refusals, held_refusals}
 use Rattle.rules.specs.Table.{limits}
 use Rattle.rules.proofs.Answers.{listed_refused, listed_past}
 use Rattle.rules.proofs.First.{None}
-use Rattle.refusal.proofs.Refusals.{tested_none, held_refused, held_lacking, held_none}
+use Rattle.refusal.proofs.Refusals.{digest_room, tested_none, held_refused, held_lacking, held_none}
 use Rattle.refusal.specs.Damage.{Damaged, Tested}
 use Rattle.store.specs.Answers.{Looked}
 use Rattle.store.specs.Layout.{count_of, preds_at, pred_at, ops_of}
@@ -23,7 +23,7 @@ use Rattle.order.specs.Sorted.{digests_at}
 use Rattle.walk.specs.Marks.{Front}
 use Rattle.walk.proofs.Painting.{large_ready, ready_early}
 use Rattle.walk.proofs.Places.{looked_held, looked_unheld}
-use Rattle.lists.proofs.Lists.{preds_whole, preds_short, tested_whole}
+use Rattle.lists.proofs.Lists.{preds_whole, preds_short}
 use Rattle.lists.proofs.predecessors_for.Goals as goal
 
 -- the digest d, not refused, stands at place i of s; h' has the c places that record i lists
@@ -49,7 +49,7 @@ pub returns-then-refused-ne0 : goal.returns-then-refused-ne0
 returns-then-refused-ne0 c = let a = c.args in listed_refused c.if-refused-ne0.true (held_refused a.store.now a.digest.now c.if-refused-ne0.true c.of_digest-refused.ensures.number)
 
 pub place_of-requires-clause-in_bounds : goal.place_of-requires-clause-in_bounds
-place_of-requires-clause-in_bounds c = tested_whole c.args.store.now c.args.digest.now c.of_digest-refused.ensures c.if-refused-ne0.false
+place_of-requires-clause-in_bounds c = digest_room c.args.digest.now c.of_digest-refused.ensures c.if-refused-ne0.false
 
 pub returns-then-out-c : goal.returns-then-out-c
 returns-then-out-c c = unwritten _ c.args.digest.now c.of_digest-refused.ensures c.if-refused-ne0.false c.place_of.result c.place_of.ensures c.in-At.is c.copy_preds-c.ensures c.if-out-c.true
