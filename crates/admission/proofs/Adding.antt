@@ -4,14 +4,14 @@ use Prim.Native.Nat.{ℕ, ◌/◌, ◌≤◌, ◌<◌}
 use native.Mathlib.Omega.{arith}
 use native.Mathlib.Decide.{ℕ_discrete}
 use mathlib.Core.Path.{◌≡◌, refl, sym, subst}
-use mathlib.Core.Bool.{Bool, true, false, true≢false}
-use mathlib.Core.Logic.{inl, inr, ⊎_elim}
+use mathlib.Core.Bool.{false, true≢false}
+use mathlib.Core.Logic.{⊎_elim}
 use mathlib.Core.List.{List, [], ◌∷◌}
-use lib.ListN.{length}
+use lib.ListN.{length, take}
 use Rattle.rules.specs.Admission.{AsOffered, NewlyChainable, MadeChainable, Admits, admission_refusals, add_op_refusals}
-use Rattle.rules.specs.Answers.{Put, NoRoom}
+use Rattle.rules.specs.Answers.{NoRoom}
 use Rattle.rules.specs.Bytes.{Bytes, digest_of}
-use Rattle.rules.specs.Graph.{Held}
+use Rattle.rules.specs.Graph.{Op, Held}
 use Rattle.rules.specs.Table.{limits, Shaped}
 use Rattle.rules.proofs.Admission.{as_offered_unique, new_admits, offered_admissible, offered_few, offered_room}
 use Rattle.rules.proofs.First.{None, first_clear}
@@ -19,39 +19,16 @@ use Rattle.rules.proofs.Lists.{set_same}
 use Rattle.store.specs.Layout.{count_of, ops_of}
 use Rattle.store.specs.Slots.{Gathering}
 use Rattle.store.specs.Sound.{admit, Admitted}
-use Rattle.store.specs.Writes.{Offer, offered}
+use Rattle.store.specs.Writes.{offered}
 use Rattle.store.proofs.Ops.{ops_length}
-use Rattle.store.proofs.Slots.{slotted_offer}
+use Rattle.store.proofs.Slots.{slotted_set}
+use Rattle.order.proofs.Sorting.{digests_front}
 use Rattle.refusal.specs.Damage.{Damaged}
 use Rattle.admission.specs.Adds.{AddsOp}
 use Rattle.admission.specs.Offers.{Tries}
-use Rattle.admission.proofs.Trying.{gathered_offered}
+use Rattle.admission.proofs.Trying.{set_offered}
 
 module _ {s d m l p q o t : List ℕ} {k : ℕ} where
-  pub adds_refused : {n c u : ℕ} {b : Bool} → ¬ (n ≡ 0) → Tries s d k m l p q o t n b c u → AddsOp s d k m l o s t n false 0
-  adds_refused {n} z T =
-      record {
-        updates = [];
-        admits = record { number = T.number; known = λ x. z x.0; new = λ e. absurd (z e); same = λ x. (refl, refl) };
-        counted = refl;
-        put = subst (λ us. Put us o t) (T.none (inl z)) T.put;
-        untouched = λ x. refl;
-        sound = λ e. absurd (z e);
-        admitted = λ e. absurd (z e);
-      }
-
-  pub adds_known : {c u : ℕ} → Tries s d k m l p q o t 0 true c u → AddsOp s d k m l o s t 0 true 0
-  adds_known T =
-      record {
-        updates = [];
-        admits = record { number = T.number; known = T.known; new = λ e f. absurd (true≢false f); same = λ x. (refl, refl) };
-        counted = refl;
-        put = subst (λ us. Put us o t) (T.none (inr refl)) T.put;
-        untouched = λ x. refl;
-        sound = T.sound;
-        admitted = λ e f. absurd (true≢false f);
-      }
-
   module _ {c u : ℕ} (T : Tries s d k m l p q o t 0 false c u) where
     unheld : ¬ Held (ops_of s) (digest_of d)
     unheld h = T.known (refl, h)
@@ -69,33 +46,42 @@ module _ {s d m l p q o t : List ℕ} {k : ℕ} where
     slots : Gathering s (count_of s) l p q (length l / 32) c
     slots = T.gathered refl refl
 
-    -- there is room, and what is written is an offer
+    -- there is room, and the places are those of an operation
     pub add_room : count_of s < 512
     add_room = omega (arith, none.1.1.1.1.1.1.0, ops_length s)
 
-    pub add_few : c ≤ 16
+    pub add_whole : (length d ≡ 32) × (length m ≡ 32)
+    add_whole = (shape (λ S. S.digest), shape (λ S. S.member))
+
+    add_few : c ≤ 16
     add_few = omega (arith, slots.slots.few, none.1.0)
 
-    pub add_offer : 16 ≤ length p → Offer (count_of s) d 0 m 0 q c
-    add_offer h = slotted_offer d 0 m 0 slots.slots (omega (arith, shape (λ S. S.digest))) (omega (arith, shape (λ S. S.member))) (omega (arith, slots.size, none.1.0)) (omega (arith, none.1.0))
+    module _ (room : 16 ≤ length p) where
+      add_within : c ≤ length q
+      add_within = omega (arith, add_few, slots.size)
 
-    new_op : AsOffered d k m l (offered s d 0 k m 0 q c)
-    new_op = gathered_offered d k m slots
+      op : Op
+      op = offered s d k m (take c q)
 
-    pub adds_new : {s' : List ℕ} → Bytes d → Bytes m → Admitted limits s (offered s d 0 k m 0 q c) s' → AddsOp s d k m l o s' t 0 false u
-    adds_new {s'} bd bm A =
-        record {
-          updates = T.us;
-          admits = subst (λ K. Admits (add_op_refusals limits (Damaged s) (ops_of s) d k m l o) (ops_of s) d k m l K 0 false T.us) (sym A.ops) (new_admits T.number unheld new_op (set_same (λ x. (into x, back x)) (T.answers refl refl)));
-          counted = T.counted;
-          put = T.put;
-          untouched = ⊎_elim (λ z. absurd (z refl)) (λ e. absurd (true≢false (sym e)));
-          sound = λ e. admit (T.sound refl) (offered_admissible limits (Damaged s) (ops_of s) d k m l ((9, NoRoom (NewlyChainable (ops_of s) d k m l) o) ∷ []) bd bm unheld T.number new_op) (offered_few limits (Damaged s) (ops_of s) d k m l ((9, NoRoom (NewlyChainable (ops_of s) d k m l) o) ∷ []) bd bm unheld T.number new_op) (offered_room limits (Damaged s) (ops_of s) d k m l ((9, NoRoom (NewlyChainable (ops_of s) d k m l) o) ∷ []) bd bm unheld T.number new_op) A;
-          admitted = λ e f op a. subst (λ x. Admitted limits s x s') (as_offered_unique new_op a) A;
-        }
-      where
-        into : (x : ℕ) → NewlyChainable (ops_of s) d k m l x → MadeChainable (ops_of s) (offered s d 0 k m 0 q c) x
-        into x y = subst (λ op. MadeChainable (ops_of s) op x) (as_offered_unique y.offered new_op) y.made
+      new_op : AsOffered d k m l op
+      unfolding op
+      new_op = set_offered d k m (rw (digests_front s q c add_within) (slotted_set slots.slots))
 
-        back : (x : ℕ) → MadeChainable (ops_of s) (offered s d 0 k m 0 q c) x → NewlyChainable (ops_of s) d k m l x
-        back x y = record { op = offered s d 0 k m 0 q c; offered = new_op; made = y }
+      pub adds_new : {s' : List ℕ} → Bytes d → Bytes m → Admitted limits s (offered s d k m (take c q)) s' → AddsOp s d k m l o s' t 0 false u
+      unfolding op
+      adds_new {s'} bd bm A =
+          record {
+            updates = T.us;
+            admits = subst (λ K. Admits (add_op_refusals limits (Damaged s) (ops_of s) d k m l o) (ops_of s) d k m l K 0 false T.us) (sym A.ops) (new_admits T.number unheld new_op (set_same (λ x. (into x, back x)) (T.answers refl refl)));
+            counted = T.counted;
+            put = T.put;
+            untouched = ⊎_elim (λ z. absurd (z refl)) (λ e. absurd (true≢false (sym e)));
+            sound = λ e. admit (T.sound refl) (offered_admissible limits (Damaged s) (ops_of s) d k m l ((9, NoRoom (NewlyChainable (ops_of s) d k m l) o) ∷ []) bd bm unheld T.number new_op) (offered_few limits (Damaged s) (ops_of s) d k m l ((9, NoRoom (NewlyChainable (ops_of s) d k m l) o) ∷ []) bd bm unheld T.number new_op) (offered_room limits (Damaged s) (ops_of s) d k m l ((9, NoRoom (NewlyChainable (ops_of s) d k m l) o) ∷ []) bd bm unheld T.number new_op) A;
+            admitted = λ e f x a. subst (λ y. Admitted limits s y s') (as_offered_unique new_op a) A;
+          }
+        where
+          into : (x : ℕ) → NewlyChainable (ops_of s) d k m l x → MadeChainable (ops_of s) op x
+          into x y = subst (λ z. MadeChainable (ops_of s) z x) (as_offered_unique y.offered new_op) y.made
+
+          back : (x : ℕ) → MadeChainable (ops_of s) op x → NewlyChainable (ops_of s) d k m l x
+          back x y = record { op = op; offered = new_op; made = y }

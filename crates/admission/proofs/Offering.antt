@@ -3,23 +3,19 @@
 use Prim.Native.Nat.{ℕ, ◌*◌, ◌/◌, ◌%◌, ◌≤◌, ◌<◌}
 use native.Mathlib.Omega.{arith}
 use mathlib.Core.Path.{◌≡◌, refl, ◌∙◌, ap, subst}
-use mathlib.Core.Bool.{true, false, true≢false}
 use mathlib.Core.List.{List, [], ◌∷◌}
 use lib.ListN.{length, get_or}
-use Rattle.rules.specs.Bytes.{number_at, digest_of, digests_of}
-use Rattle.rules.specs.First.{First}
+use Rattle.rules.specs.Bytes.{number_at, digests_of}
 use Rattle.rules.specs.Graph.{Held, Unheld}
-use Rattle.rules.specs.Table.{limits}
 use Rattle.rules.proofs.Bytes.{row_length, row_in, in_row}
-use Rattle.rules.proofs.First.{None, first_done, first_here, first_next, first_past, first_stays}
+use Rattle.rules.proofs.First.{first_done, first_here, first_next}
 use Rattle.store.specs.Layout.{count_of, ops_of}
-use Rattle.store.specs.Sound.{Sound}
 use Rattle.store.specs.Slots.{Slotted, Gathering, Lacking}
 use Rattle.store.proofs.Ops.{ops_length}
 use Rattle.store.proofs.Slots.{gathering_none}
 use Rattle.walk.specs.Marks.{Ready}
 use Rattle.walk.proofs.Places.{held_at, place_of}
-use Rattle.admission.specs.Offers.{input_refusals, new_refusals, Begun, Fits, Offers}
+use Rattle.admission.specs.Offers.{Begun, Fits}
 
 digests_length : (l : List ℕ) → length (digests_of l) ≡ length l / 32
 digests_length l = row_length (length l / 32) (λ k. number_at l (32 * k) 32)
@@ -37,6 +33,10 @@ no_digests l z e = omega (arith, digests_length l, ap length e)
 
 pub begun_none : (s l p : List ℕ) → Begun s l p p
 begun_none s l p = record { digests = 0; slots = 0; gathering = gathering_none s (count_of s) l p }
+
+-- only an add has no predecessors
+pub fits_rootless : {s l p : List ℕ} {k : ℕ} → (digests_of l ≡ []) × (¬ (k ≡ 0)) → Fits s k l p p 4 0
+fits_rootless {s} {l} {p} x = record { number = first_here _ _ _ x; begun = begun_none s l p; gathered = λ e. absurd (omega arith) }
 
 module _ {s : List ℕ} {r : ℕ} (R : Ready s r) {l : List ℕ} where
   -- digests that have their slots are held
@@ -83,36 +83,3 @@ module _ {s : List ℕ} {r : ℕ} (R : Ready s r) {l : List ℕ} where
             begun = record { digests = length l / 32; slots = c; gathering = G };
             gathered = λ e. G;
           }
-
--- an offer is refused by its arguments or the store; or its digest is known; or it is tested as a new operation
-module _ {s d m l p : List ℕ} {k : ℕ} where
-  pub offers_refused : {n : ℕ} → ¬ (n ≡ 0) → First (input_refusals s d k m l) n → Offers s d k m l p p n false 0
-  offers_refused {n} z f =
-      record {
-        number = first_stays (input_refusals s d k m l) ((0, Held (ops_of s) (digest_of d)) ∷ new_refusals s k l) n z f;
-        known = λ x. z x.0;
-        begun = begun_none s l p;
-        sound = λ e. absurd (z e);
-        gathered = λ e. absurd (z e);
-      }
-
-  module _ (none : None (input_refusals s d k m l)) (S : Sound limits s) where
-    pub offers_known : Held (ops_of s) (digest_of d) → Offers s d k m l p p 0 true 0
-    offers_known h =
-        record {
-          number = first_past (input_refusals s d k m l) _ 0 none (first_here 0 _ _ h);
-          known = (refl, h);
-          begun = begun_none s l p;
-          sound = λ e. S;
-          gathered = λ e f. absurd (true≢false f);
-        }
-
-    pub offers_new : {q : List ℕ} {n c : ℕ} → ¬ Held (ops_of s) (digest_of d) → Fits s k l p q n c → Offers s d k m l p q n false c
-    offers_new {q} {n} x F =
-        record {
-          number = first_past (input_refusals s d k m l) _ n none (first_next 0 _ _ n x F.number);
-          known = λ y. x y.1;
-          begun = F.begun;
-          sound = λ e. S;
-          gathered = λ e f. F.gathered e;
-        }

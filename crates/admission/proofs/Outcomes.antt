@@ -5,7 +5,8 @@ use Prim.Native.Nat.{ℕ}
 use native.Mathlib.Omega.{arith}
 use native.Mathlib.Decide.{ℕ_discrete}
 use mathlib.Core.Path.{◌≡◌, refl, sym, ◌∙◌, ap, subst}
-use mathlib.Core.Bool.{Bool}
+use mathlib.Core.Bool.{Bool, true≢false}
+use Rattle.std.specs.Prelude.{Result, Ok, Option, Some, None}
 use mathlib.Core.Logic.{inl}
 use mathlib.Core.List.{List}
 use lib.ListN.{length}
@@ -13,17 +14,21 @@ use lib.Seq.{ext_get_or}
 use Rattle.rules.specs.Answers.{Put}
 use Rattle.rules.specs.Bytes.{Bytes}
 use Rattle.rules.specs.Lists.{Alike}
+use Rattle.rules.specs.Numbers.{number_of}
 use Rattle.rules.specs.Table.{limits}
+use Rattle.rules.specs.declared.Refusal.{Refusal}
 use Rattle.rules.proofs.Admission.{admits_unique, admits_same, add_op_matched}
 use Rattle.rules.proofs.Answers.{put_unique}
 use Rattle.rules.proofs.Calls.{Twins}
 use Rattle.rules.proofs.First.{first_unique}
+use Rattle.rules.proofs.Numbers.{same_answer}
 use Rattle.store.specs.Layout.{ops_of}
 use Rattle.store.specs.Sound.{Roomy, Sound, fresh, Freshened}
 use Rattle.store.proofs.Ops.{sound_formed}
 use Rattle.store.proofs.Unique.{store_unique}
 use Rattle.refusal.specs.Damage.{Damaged}
-use Rattle.admission.specs.Adds.{AddsOp}
+use Rattle.admission.specs.Adds.{AddsOp, passed_of}
+use Rattle.admission.specs.Offers.{known_of}
 
 roomy : Roomy limits
 roomy = record { operations = omega arith; predecessors = omega arith }
@@ -40,6 +45,19 @@ fresh_unique {s} {t} {u} {n} {i} p q = (number, go (ℕ_discrete n 0))
 
 pub fresh_sound : {s t : List ℕ} → Freshened 512 s t 0 → Sound limits t
 fresh_sound p = fresh (p.done refl)
+
+-- an answer of `add_op` is decided by what it stands for
+pub add_op_answer : (r q : Result (Option ℕ) Refusal) → number_of r ≡ number_of q → known_of r ≡ known_of q → passed_of r ≡ passed_of q → r ≡ q
+add_op_answer r q n b c = same_answer (λ x. (known_of x, passed_of x)) r q alike n (ap2 b c)
+  where
+    ap2 : known_of r ≡ known_of q → passed_of r ≡ passed_of q → ◌≡◌ {A = Bool × ℕ} (known_of r, passed_of r) (known_of q, passed_of q)
+    ap2 e f = rw (e, f) refl
+
+    alike : (x y : Option ℕ) → ◌≡◌ {A = Bool × ℕ} (known_of (Ok x), passed_of (Ok x)) (known_of (Ok y), passed_of (Ok y)) → x ≡ y
+    alike None None e = refl
+    alike None (Some v) e = absurd (true≢false (ap (λ (p : Bool × ℕ). p.0) e))
+    alike (Some v) None e = absurd (true≢false (sym (ap (λ (p : Bool × ℕ). p.0) e)))
+    alike (Some v) (Some w) e = ap Some (ap (λ (p : Bool × ℕ). p.1) e)
 
 module _ {s d m l o t u : List ℕ} {k n c : ℕ} {b : Bool} (A : AddsOp s d k m l o t u n b c) where
   -- a sound store stays sound

@@ -6,119 +6,160 @@ use mathlib.Core.Path.{◌≡◌, refl, sym, subst}
 use mathlib.Core.Bool.{true, false, true≢false}
 use mathlib.Core.Logic.{◌↔◌, ⊎_elim}
 use mathlib.Core.List.{List, [], ◌∷◌}
-use lib.ListN.{length}
+use lib.ListN.{length, take}
+use Rattle.std.specs.Prelude.{Result, Ok, Option, IsErrAnd}
 use Rattle.rules.specs.Admission.{AsOffered, Admissible, MadeChainable, NewlyChainable, admission_refusals}
 use Rattle.rules.specs.Answers.{NoRoom, Listed}
-use Rattle.rules.specs.Bytes.{Bytes, digest_of}
+use Rattle.rules.specs.Bytes.{Bytes, digest_of, digests_of}
 use Rattle.rules.specs.First.{First}
-use Rattle.rules.specs.Graph.{Held}
+use Rattle.rules.specs.Graph.{Op, Held}
+use Rattle.rules.specs.Lists.{◌∈◌, SetOf}
+use Rattle.rules.specs.Numbers.{code, number_of}
+use Rattle.rules.specs.declared.Refusal.{Refusal}
 use Rattle.rules.specs.Table.{limits}
 use Rattle.rules.proofs.Admission.{as_offered_unique, offered_admissible}
-use Rattle.rules.proofs.Answers.{put_nothing, no_room_same}
+use Rattle.rules.proofs.Answers.{first_none, put_nothing, no_room_same}
 use Rattle.rules.proofs.Chainable.{not_chainable, made_nearest, nearest_made}
 use Rattle.rules.proofs.Formed.{Formed}
-use Rattle.rules.proofs.First.{None, first_unique, first_here, first_past, first_stays, first_skips, first_clear, first_moves}
-use Rattle.rules.proofs.Lists.{set_same}
+use Rattle.rules.proofs.First.{None, first_unique, first_here, first_next, first_past, first_stays, first_clear, first_moves}
+use Rattle.rules.proofs.Lists.{set_same, set_unique}
 use Rattle.store.specs.Layout.{count_of, ops_of}
 use Rattle.store.specs.Slots.{Gathering}
-use Rattle.store.specs.Writes.{offered}
+use Rattle.store.specs.Sound.{Sound}
 use Rattle.store.proofs.Ops.{sound_formed}
 use Rattle.store.proofs.Slots.{slotted_set}
-use Rattle.refusal.specs.Damage.{Damaged}
+use Rattle.order.specs.Sorted.{digests_at}
+use Rattle.order.proofs.Sorting.{digests_front}
+use Rattle.refusal.specs.Damage.{Damaged, Tested}
 use Rattle.admission.specs.Marks.{Made, Worked}
-use Rattle.admission.specs.Offers.{input_refusals, Begun, Offers, Tries, WorkedFor}
+use Rattle.rules.proofs.Numbers.{code_some}
+use Rattle.refusal.proofs.Refusals.{handed_on}
+use Rattle.admission.specs.Offers.{input_refusals, new_refusals, known_of, Begun, Fits, slots_of, listed_of, Tries, WorkedFor}
+use Rattle.admission.specs.declared.tried.Tried.{Tried}
+use Rattle.admission.proofs.Offering.{begun_none}
 
--- the operation with its predecessors in the first c places is the one that is offered
-pub gathered_offered : {s l p q : List ℕ} {c : ℕ} (d : List ℕ) (k : ℕ) (m : List ℕ) → Gathering s (count_of s) l p q (length l / 32) c → AsOffered d k m l (offered s d 0 k m 0 q c)
-gathered_offered d k m G = record { digest = refl; kind = refl; member = refl; preds = slotted_set G.slots }
-
--- the work arrays of a trial
-pub worked_refused : {s d m l q : List ℕ} {k n : ℕ} {w h z : List ℕ} → ¬ (n ≡ 0) → First (admission_refusals limits (Damaged s) (ops_of s) d k m l) n → WorkedFor s d k m l q false 0 w w h h z z
-worked_refused x f = record { new = λ g. absurd (x (first_unique _ f g)); other = λ y. (refl, refl, refl) }
-
-pub worked_known : {s d m l q : List ℕ} {k : ℕ} {w h z : List ℕ} → WorkedFor s d k m l q true 0 w w h h z z
-worked_known = record { new = λ f e. absurd (true≢false e); other = λ y. (refl, refl, refl) }
+-- an operation with these predecessors is the one that is offered, where they are the set of the digests of the list
+pub set_offered : {l ds : List ℕ} (d : List ℕ) (k : ℕ) (m : List ℕ) → SetOf (λ p. p ∈ digests_of l) ds → AsOffered d k m l (record { digest = digest_of d; kind = k; member = digest_of m; preds = ds })
+set_offered d k m D = record { digest = refl; kind = refl; member = refl; preds = D }
 
 module _ {s d m l p q : List ℕ} {k : ℕ} where
-  pub tries_refused : {n : ℕ} {o : List ℕ} → ¬ (n ≡ 0) → First (admission_refusals limits (Damaged s) (ops_of s) d k m l) n → Begun s l p q → Tries s d k m l p q o o n false 0 0
-  tries_refused {n} {o} z f g =
+  tries : {o : List ℕ} (e : Refusal) → First (admission_refusals limits (Damaged s) (ops_of s) d k m l) (code e) → Begun s l p q → Tries s d k m l p q o o (code e) false 0 0
+  tries {o} e f b =
       record {
-        number = first_stays (admission_refusals limits (Damaged s) (ops_of s) d k m l) ((9, NoRoom (NewlyChainable (ops_of s) d k m l) o) ∷ []) n z f;
-        known = λ x. z x.0;
-        begun = g;
-        sound = λ e. absurd (z e);
-        gathered = λ e. absurd (z e);
+        number = first_stays (admission_refusals limits (Damaged s) (ops_of s) d k m l) ((9, NoRoom (NewlyChainable (ops_of s) d k m l) o) ∷ []) (code e) (code_some e) f;
+        known = λ x. code_some e x.0;
+        begun = b;
+        sound = λ x. absurd (code_some e x);
+        gathered = λ x. absurd (code_some e x);
         us = [];
-        answers = λ e. absurd (z e);
+        answers = λ x. absurd (code_some e x);
         none = λ x. refl;
         counted = refl;
         put = put_nothing;
       }
 
-  pub tries_known : {c : ℕ} {o : List ℕ} → Offers s d k m l p q 0 true c → Tries s d k m l p q o o 0 true 0 0
-  tries_known {c} {o} O =
-      record {
-        number = first_past (input_refusals s d k m l) _ 0 (first_skips (input_refusals s d k m l) _ 0 (omega arith) O.number).0 (first_here 0 _ _ O.known.1);
-        known = O.known;
-        begun = O.begun;
-        sound = O.sound;
-        gathered = λ e f. absurd (true≢false f);
-        us = [];
-        answers = λ e f. absurd (true≢false f);
-        none = λ x. refl;
-        counted = refl;
-        put = put_nothing;
-      }
+  -- the offer is refused, and nothing is listed
+  pub refused : {w h z o : List ℕ} (e : Refusal) (r : Result (Option Tried) Refusal) → IsErrAnd r (λ y. y ≡ e) → First (admission_refusals limits (Damaged s) (ops_of s) d k m l) (code e) → Begun s l p q → Tries s d k m l p q o o (number_of r) (known_of r) (slots_of r) (listed_of r) × WorkedFor s d k m l (known_of r) w w h h z z
+  refused e r x f b = rw (handed_on r x) (tries e f b, record { new = λ g. absurd (code_some e (first_unique _ f g)); other = λ y. (refl, refl, refl) })
 
-  module _ {c : ℕ} (O : Offers s d k m l p q 0 false c) where
-    pub worked_new : {w w' h h' z z' : List ℕ} → Worked s q c k w w' h h' z z' → WorkedFor s d k m l q false c w w' h h' z z'
-    worked_new W = record { new = λ f e. W; other = ⊎_elim (λ n. absurd (n O.number)) (λ e. absurd (true≢false (sym e))) }
+-- the arguments or the store are
+pub refused_input : {s d m l p w h z o : List ℕ} {k : ℕ} (e : Refusal) (r : Result (Option Tried) Refusal) → IsErrAnd r (λ y. y ≡ e) → First (input_refusals s d k m l) (code e) → Tries s d k m l p p o o (number_of r) (known_of r) (slots_of r) (listed_of r) × WorkedFor s d k m l (known_of r) w w h h z z
+refused_input {s} {d} {m} {l} {p} {k = k} e r x f = refused e r x (first_stays (input_refusals s d k m l) ((0, Held (ops_of s) (digest_of d)) ∷ new_refusals s k l) (code e) (code_some e) f) (begun_none s l p)
 
-    unheld : ¬ Held (ops_of s) (digest_of d)
-    unheld h = O.known (refl, h)
+-- the arguments and the store are not refused
+module _ {A : Type 0} {P : A → Type 0} {x : A} {s d m l : List ℕ} {k : ℕ} (T : Tested (input_refusals s d k m l) P (Ok x)) (S : Sound limits s) where
+  input : None (input_refusals s d k m l)
+  input = first_none _ 0 (omega arith) T.number
 
-    none : None (admission_refusals limits (Damaged s) (ops_of s) d k m l)
-    none = first_clear (admission_refusals limits (Damaged s) (ops_of s) d k m l) [] (search unheld) O.number
+  pub known : {p o w h z : List ℕ} → Held (ops_of s) (digest_of d) → Tries s d k m l p p o o 0 true 0 0 × WorkedFor s d k m l true w w h h z z
+  known {p} held = (
+    record {
+      number = first_past (input_refusals s d k m l) _ 0 input (first_here 0 _ _ held);
+      known = (refl, held);
+      begun = begun_none s l p;
+      sound = λ e. S;
+      gathered = λ e f. absurd (true≢false f);
+      us = [];
+      answers = λ e f. absurd (true≢false f);
+      none = λ x. refl;
+      counted = refl;
+      put = put_nothing;
+    },
+    record { new = λ f e. absurd (true≢false e); other = λ y. (refl, refl, refl) },
+  )
 
-    pub slots : Gathering s (count_of s) l p q (length l / 32) c
-    slots = O.gathered refl refl
+  -- the digest is new
+  module _ (unheld : ¬ Held (ops_of s) (digest_of d)) where
+    new_number : (n : ℕ) → First (new_refusals s k l) n → First (admission_refusals limits (Damaged s) (ops_of s) d k m l) n
+    new_number n f = first_past (input_refusals s d k m l) _ n input (first_next 0 _ _ n unheld f)
 
-    pub few : length l / 32 ≤ 16
-    few = omega (arith, none.1.0)
+    pub refused_new : {p q w h z o : List ℕ} {c : ℕ} (e : Refusal) (r : Result (Option Tried) Refusal) → IsErrAnd r (λ y. y ≡ e) → Fits s k l p q (code e) c → Tries s d k m l p q o o (number_of r) (known_of r) (slots_of r) (listed_of r) × WorkedFor s d k m l (known_of r) w w h h z z
+    refused_new e r x F = refused e r x (new_number (code e) F.number) F.begun
 
-    module _ (bd : Bytes d) (bm : Bytes m) where
-      new_op : AsOffered d k m l (offered s d 0 k m 0 q c)
-      new_op = gathered_offered d k m slots
+    module _ {p q : List ℕ} {c : ℕ} (F : Fits s k l p q 0 c) where
+      number : First (admission_refusals limits (Damaged s) (ops_of s) d k m l) 0
+      number = new_number 0 F.number
 
-      admissible : Admissible (ops_of s) (offered s d 0 k m 0 q c)
-      admissible = offered_admissible limits (Damaged s) (ops_of s) d k m l [] bd bm unheld O.number new_op
+      none : None (admission_refusals limits (Damaged s) (ops_of s) d k m l)
+      none = first_clear (admission_refusals limits (Damaged s) (ops_of s) d k m l) [] (search unheld) number
 
-      -- the nearest updates of the predecessors that were latest are those made chainable
-      made_newly : (u : ℕ) → Made s q c k u ↔ NewlyChainable (ops_of s) d k m l u
-      made_newly u = (into, back)
-        where
-          F : Formed (ops_of s)
-          F = sound_formed (O.sound refl)
+      slots : Gathering s (count_of s) l p q (length l / 32) c
+      slots = F.gathered refl
 
-          into : Made s q c k u → NewlyChainable (ops_of s) d k m l u
-          into x = record { op = offered s d 0 k m 0 q c; offered = new_op; made = nearest_made F admissible x.update x.passed.nearest (not_chainable F x.passed.nearest.update x.passed.latest) }
+      -- the list is written from the places in front
+      front : 16 ≤ length p → digests_at s (take c q) (length (take c q)) ≡ digests_at s q c
+      front h = digests_front s q c (omega (arith, none.1.0, slots.slots.few, slots.size))
 
-          back : NewlyChainable (ops_of s) d k m l u → Made s q c k u
-          back y =
-              let z = subst (λ o. MadeChainable (ops_of s) o u) (as_offered_unique y.offered new_op) y.made in
-              record { update = z.update; passed = record { nearest = made_nearest F admissible z; latest = λ x. x.passed z.was } }
+      worked_new : {w w' h h' z z' : List ℕ} → Worked s (digests_at s q c) k w w' h h' z z' → WorkedFor s d k m l false w w' h h' z z'
+      worked_new {w} {w'} {h} {h'} {z} {z'} W = record { new = λ f e xs D. subst (λ x. Worked s x k w w' h h' z z') (set_unique (slotted_set slots.slots) D) W; other = ⊎_elim (λ n. absurd (n number)) (λ e. absurd (true≢false (sym e))) }
 
-      pub tries_new : {o t : List ℕ} {n u : ℕ} → Listed [] (Made s q c k) o t n u → Tries s d k m l p q o t n false c u
-      tries_new {o} {t} {n} {u} L =
-          record {
-            number = first_past (admission_refusals limits (Damaged s) (ops_of s) d k m l) _ n none (first_moves ((9, NoRoom (Made s q c k) o) ∷ []) ((9, NoRoom (NewlyChainable (ops_of s) d k m l) o) ∷ []) n (refl, (no_room_same made_newly, no_room_same (λ x. ((made_newly x).1, (made_newly x).0))), λ x. tt) L.number);
-            known = λ x. unheld x.1;
-            begun = O.begun;
-            sound = λ e. O.sound refl;
-            gathered = λ e f. slots;
-            us = L.ds;
-            answers = λ e f. set_same made_newly (L.done e);
-            none = ⊎_elim L.refused (λ e. absurd (true≢false (sym e)));
-            counted = L.counted;
-            put = L.put;
-          }
+      module _ (bd : Bytes d) (bm : Bytes m) where
+        op : Op
+        op = record { digest = digest_of d; kind = k; member = digest_of m; preds = digests_at s q c }
+
+        new_op : AsOffered d k m l op
+        unfolding op
+        new_op = set_offered d k m (slotted_set slots.slots)
+
+        admissible : Admissible (ops_of s) op
+        admissible = offered_admissible limits (Damaged s) (ops_of s) d k m l [] bd bm unheld number new_op
+
+        -- the nearest updates of the predecessors that were latest are those made chainable
+        made_newly : (u : ℕ) → Made s (digests_at s q c) k u ↔ NewlyChainable (ops_of s) d k m l u
+        unfolding op
+        made_newly u = (into, back)
+          where
+            F' : Formed (ops_of s)
+            F' = sound_formed S
+
+            into : Made s (digests_at s q c) k u → NewlyChainable (ops_of s) d k m l u
+            into x = record { op = op; offered = new_op; made = nearest_made F' admissible x.update x.passed.nearest (not_chainable F' x.passed.nearest.update x.passed.latest) }
+
+            back : NewlyChainable (ops_of s) d k m l u → Made s (digests_at s q c) k u
+            back y =
+                let z = subst (λ o. MadeChainable (ops_of s) o u) (as_offered_unique y.offered new_op) y.made in
+                record { update = z.update; passed = record { nearest = made_nearest F' admissible z; latest = λ x. x.passed z.was } }
+
+        -- c' places are answered where the list is written
+        tries_new : {o t : List ℕ} {n c' u : ℕ} → Listed [] (Made s (digests_at s q c) k) o t n u → (n ≡ 0 → Gathering s (count_of s) l p q (length l / 32) c') → Tries s d k m l p q o t n false c' u
+        tries_new {o} {t} {n} {c'} {u} L G =
+            record {
+              number = first_past (admission_refusals limits (Damaged s) (ops_of s) d k m l) _ n none (first_moves ((9, NoRoom (Made s (digests_at s q c) k) o) ∷ []) ((9, NoRoom (NewlyChainable (ops_of s) d k m l) o) ∷ []) n (refl, (no_room_same made_newly, no_room_same (λ x. ((made_newly x).1, (made_newly x).0))), λ x. tt) L.number);
+              known = λ x. unheld x.1;
+              begun = F.begun;
+              sound = λ e. S;
+              gathered = λ e f. G e;
+              us = L.ds;
+              answers = λ e f. set_same made_newly (L.done e);
+              none = ⊎_elim L.refused (λ e. absurd (true≢false (sym e)));
+              counted = L.counted;
+              put = L.put;
+            }
+
+        -- the list is written, or there is no room for it
+        module _ {o t w w' h h' z z' : List ℕ} (room : 16 ≤ length p) (W : Worked s (digests_at s (take c q) (length (take c q))) k w w' h h' z z') where
+          pub written : {u : ℕ} → Listed [] (Made s (digests_at s (take c q) (length (take c q))) k) o t 0 u → Tries s d k m l p q o t 0 false c u × WorkedFor s d k m l false w w' h h' z z'
+          written L = (tries_new (rw (front room) at L) (λ e. slots), worked_new (rw (front room) at W))
+
+          pub unwritten : (e : Refusal) (r : Result (Option Tried) Refusal) → IsErrAnd r (λ y. y ≡ e) → Listed [] (Made s (digests_at s (take c q) (length (take c q))) k) o t (code e) 0 → Tries s d k m l p q o t (number_of r) (known_of r) (slots_of r) (listed_of r) × WorkedFor s d k m l (known_of r) w w' h h' z z'
+          unwritten e r x L = rw (handed_on r x) (tries_new (rw (front room) at L) (λ y. absurd (code_some e y)), worked_new (rw (front room) at W))

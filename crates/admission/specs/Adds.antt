@@ -1,13 +1,20 @@
 -- Admission over the bytes of a store.
 -- Assumes nothing.
-use Rattle.std.specs.Prelude.{ℕ, ◌≡◌, Bool, true, false, ◌⊎◌, List, length}
+use Rattle.std.specs.Prelude.{ℕ, ◌≡◌, Bool, true, false, ◌⊎◌, List, length, Option, Some, None, Result, Ok, Err}
 use Rattle.rules.specs.Admission.{AsOffered, add_op_refusals, Admits}
 use Rattle.rules.specs.Answers.{Put}
 use Rattle.rules.specs.Graph.{Op}
 use Rattle.rules.specs.Table.{limits}
+use Rattle.rules.specs.declared.Refusal.{Refusal}
 use Rattle.store.specs.Layout.{ops_of}
 use Rattle.store.specs.Sound.{Sound, Admitted}
 use Rattle.refusal.specs.Damage.{Damaged}
+
+-- how many updates are made chainable
+abbrev pub passed_of : Result (Option ℕ) Refusal → ℕ
+passed_of (Ok (Some n)) = n
+passed_of (Ok None) = 0
+passed_of (Err r) = 0
 
 -- Digest d, kind k, member m and list l are offered to the store s, which becomes t. n is the number, b whether the digest was known,
 -- c the count of updates made chainable; their output is o before and u after.

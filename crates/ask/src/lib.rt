@@ -1,224 +1,134 @@
 #![tactic(auto)]
-// The small questions that answer yes or no, a depth, or a part of a store: each call tests its input, owns its work arrays and only reads the store.
-ghost use Rattle.std.specs.Prelude.{◌≤◌, ◌⊎◌, length};
+// The small questions that answer yes or no, a depth, or a part of a store: each call tests its input, owns its work arrays and only reads
+// the store.
+ghost use Rattle.std.specs.Prelude.{◌⊎◌, length};
 ghost use Rattle.rules.specs.Answers.{Says};
 ghost use Rattle.rules.specs.First.{First};
 ghost use Rattle.rules.specs.Small.{digest_refusals};
 ghost use Rattle.rules.specs.Table.{most_listed};
 ghost use Rattle.rules.specs.Calls.{DepthOf, ContainsOpHash, ContainsAll, IsChainable, HasSingleHead, HasAddBefore, AddedMember, Find};
+ghost use Rattle.rules.specs.Numbers.{number_of, value_of, yes_of};
 ghost use Rattle.store.specs.Layout.{ops_of};
 ghost use Rattle.refusal.specs.Damage.{Damaged};
 ghost use Rattle.ask.specs.Marks.{OneMark};
 
-use store::Found;
-
-#[derive(Drop)]
-pub struct YesNo {
-    pub number: u8,
-    pub yes: bool,
-}
-
-#[derive(Drop)]
-pub struct DepthAnswer {
-    pub number: u8,
-    pub depth: usize,
-}
+use rules::{Kind, Refusal};
 
 // The depth of an operation.
-pub fn depth(store: &[u8], digest: &[u8]) -> DepthAnswer
-    ensures { DepthOf (Damaged store.now) (ops_of store.now) digest.now result.number result.depth }
+pub fn depth(store: &[u8], digest: &[u8]) -> Result<usize, Refusal>
+    ensures { DepthOf (Damaged store.now) (ops_of store.now) digest.now (number_of result) (value_of result) }
 {
-    let refused = refusal::of_digest(store, digest);
-    if refused != 0 {
-        return DepthAnswer {
-            number: refused,
-            depth: 0,
-        };
-    }
-    if let Found::At(i) = walk::place_of(store, digest) {
-        let mut depths = [0u16; 512];
-        walk::depths(store, &mut depths);
-        return DepthAnswer {
-            number: 0,
-            depth: depths[i] as usize,
-        };
-    }
-    DepthAnswer {
-        number: 7,
-        depth: 0,
-    }
+    let graph = refusal::of_digest(store, digest)?;
+    let Some(i) = walk::place_of(graph, digest) else {
+        return Err(Refusal::OperationNotFound);
+    };
+    let mut depths = [0u16; 512];
+    walk::depths(graph, &mut depths);
+    Ok(usize::from(depths[i]))
 }
 
 // Whether a digest is held.
-pub fn contains_op_hash(store: &[u8], digest: &[u8]) -> YesNo
-    ensures { ContainsOpHash (Damaged store.now) (ops_of store.now) digest.now result.number result.yes }
+pub fn contains_op_hash(store: &[u8], digest: &[u8]) -> Result<bool, Refusal>
+    ensures { ContainsOpHash (Damaged store.now) (ops_of store.now) digest.now (number_of result) (yes_of result) }
 {
-    let refused = refusal::of_digest(store, digest);
-    if refused != 0 {
-        return YesNo {
-            number: refused,
-            yes: false,
-        };
-    }
-    if let Found::Nothing = walk::place_of(store, digest) {
-        return YesNo {
-            number: 0,
-            yes: false,
-        };
-    }
-    YesNo {
-        number: 0,
-        yes: true,
-    }
+    let graph = refusal::of_digest(store, digest)?;
+    Ok(walk::place_of(graph, digest).is_some())
 }
 
 // Whether all digests of a list are held.
-pub fn contains_all(store: &[u8], list: &[u8]) -> YesNo
-    ensures { ContainsAll most_listed (Damaged store.now) (ops_of store.now) list.now result.number result.yes }
+pub fn contains_all(store: &[u8], list: &[u8]) -> Result<bool, Refusal>
+    ensures { ContainsAll most_listed (Damaged store.now) (ops_of store.now) list.now (number_of result) (yes_of result) }
 {
-    let refused = refusal::of_list(store, list);
-    if refused != 0 {
-        return YesNo {
-            number: refused,
-            yes: false,
-        };
-    }
+    let graph = refusal::of_list(store, list)?;
     let mut marks = [0u8; 512];
-    let missing = walk::mark_held(store, list, &mut marks);
-    YesNo {
-        number: 0,
-        yes: missing == 0,
-    }
+    let missing = walk::mark_held(graph, list, &mut marks);
+    Ok(missing == 0)
 }
 
 // Whether a digest is that of a held update which isn't latest.
-pub fn is_chainable(store: &[u8], digest: &[u8]) -> YesNo
-    ensures { IsChainable (Damaged store.now) (ops_of store.now) digest.now result.number result.yes }
+pub fn is_chainable(store: &[u8], digest: &[u8]) -> Result<bool, Refusal>
+    ensures { IsChainable (Damaged store.now) (ops_of store.now) digest.now (number_of result) (yes_of result) }
 {
-    let refused = refusal::of_digest(store, digest);
-    if refused != 0 {
-        return YesNo {
-            number: refused,
-            yes: false,
-        };
-    }
-    if let Found::At(i) = walk::place_of(store, digest) {
-        let mut marks = [0u8; 512];
-        walk::chainable(store, &mut marks);
-        return YesNo {
-            number: 0,
-            yes: marks[i] == 1,
-        };
-    }
-    YesNo {
-        number: 0,
-        yes: false,
-    }
+    let graph = refusal::of_digest(store, digest)?;
+    let Some(i) = walk::place_of(graph, digest) else {
+        return Ok(false);
+    };
+    let mut marks = [0u8; 512];
+    walk::chainable(graph, &mut marks);
+    Ok(marks[i] == 1)
 }
 
-// Whether exactly one of the first n marks is set.
-fn one_mark(marks: &[u8], n: usize) -> bool
-    requires { n ≤ length marks.now }
-    ensures { Says result (OneMark marks.now n) }
+// Whether exactly one of the marks is set.
+fn one_mark(marks: &[u8]) -> bool
+    ensures { Says result (OneMark marks.now (length marks.now)) }
 {
-    let mut found = false;
-    let mut i: usize = 0;
-    while i < n {
-        if marks[i] == 1 {
-            if found {
-                return false;
-            }
-            found = true;
-        }
-        i += 1;
-    }
-    found
+    marks.iter().filter(|mark| **mark == 1).count() == 1
 }
 
 // Whether there is exactly one head.
-pub fn has_single_head(store: &[u8]) -> YesNo
-    ensures { HasSingleHead (Damaged store.now) (ops_of store.now) result.number result.yes }
+pub fn has_single_head(store: &[u8]) -> Result<bool, Refusal>
+    ensures { HasSingleHead (Damaged store.now) (ops_of store.now) (number_of result) (yes_of result) }
 {
-    let refused = refusal::of_store(store);
-    if refused != 0 {
-        return YesNo {
-            number: refused,
-            yes: false,
-        };
-    }
+    let graph = refusal::of_store(store)?;
     let mut marks = [0u8; 512];
-    walk::mark_heads(store, &mut marks);
-    YesNo {
-        number: 0,
-        yes: one_mark(&marks, store::count(store)),
-    }
+    walk::mark_heads(graph, &mut marks);
+    Ok(one_mark(&marks[..graph.count()]))
 }
 
 // Whether an add of the member is at or before an operation; no for a digest that isn't held.
-pub fn has_add_before(store: &[u8], member: &[u8], digest: &[u8]) -> YesNo
-    ensures { HasAddBefore (Damaged store.now) (ops_of store.now) member.now digest.now result.number result.yes }
+pub fn has_add_before(store: &[u8], member: &[u8], digest: &[u8]) -> Result<bool, Refusal>
+    ensures { HasAddBefore (Damaged store.now) (ops_of store.now) member.now digest.now (number_of result) (yes_of result) }
 {
-    let refused = refusal::of_member(store, member, digest);
-    if refused != 0 {
-        return YesNo {
-            number: refused,
-            yes: false,
-        };
-    }
-    if let Found::At(i) = walk::place_of(store, digest) {
-        let mut marks = [0u8; 512];
-        return YesNo {
-            number: 0,
-            yes: walk::add_before(store, i, member, &mut marks),
-        };
-    }
-    YesNo {
-        number: 0,
-        yes: false,
-    }
+    let graph = refusal::of_member(store, member, digest)?;
+    let Some(i) = walk::place_of(graph, digest) else {
+        return Ok(false);
+    };
+    let mut marks = [0u8; 512];
+    Ok(walk::add_before(graph, i, member, &mut marks))
 }
 
 // The member of a held add, as that part of the store; else the empty part.
 pub fn added_member<'a>(store: &'a [u8], digest: &[u8]) -> &'a [u8]
     ensures { AddedMember (Damaged store.now) (ops_of store.now) digest.now result.now }
 {
-    if refusal::of_digest(store, digest) != 0 {
+    let Ok(graph) = refusal::of_digest(store, digest) else {
         return &store[0..0];
+    };
+    match walk::place_of(graph, digest) {
+        Some(i) if graph.kind(i) == Kind::Add => store::member_at(graph.bytes, i),
+        _ => &store[0..0],
     }
-    if let Found::At(i) = walk::place_of(store, digest) {
-        if store::kind_at(store, i) == 0 {
-            return &store[96 + 98 * i..128 + 98 * i];
-        }
-    }
-    &store[0..0]
 }
 
 // The number of `added_member`.
-pub fn added_member_number(store: &[u8], digest: &[u8]) -> u8
-    ensures { First (digest_refusals (Damaged store.now) digest.now) result }
+pub fn added_member_number(store: &[u8], digest: &[u8]) -> Result<(), Refusal>
+    ensures { First (digest_refusals (Damaged store.now) digest.now) (number_of result) }
 {
-    refusal::of_digest(store, digest)
+    refusal::of_digest(store, digest)?;
+    Ok(())
 }
 
-// The digest's own bytes in the first of two stores that holds it; else the empty part.
+// The digest's own bytes in the first of two stores that holds it, as that part of it; else the empty part. Both stores are lent for one
+// lifetime: the part may be of either.
 pub fn find<'a>(first: &'a [u8], second: &'a [u8], digest: &[u8]) -> &'a [u8]
     ensures { Find (Damaged first.now) (Damaged second.now) (ops_of first.now) (ops_of second.now) digest.now result.now }
 {
-    if refusal::of_two(first, second, digest) != 0 {
+    let Ok((one, other)) = refusal::of_two(first, second, digest) else {
         return &first[0..0];
+    };
+    if let Some(i) = walk::place_of(one, digest) {
+        return store::digest_at(one.bytes, i);
     }
-    if let Found::At(i) = walk::place_of(first, digest) {
-        return &first[64 + 98 * i..96 + 98 * i];
-    }
-    if let Found::At(i) = walk::place_of(second, digest) {
-        return &second[64 + 98 * i..96 + 98 * i];
+    if let Some(i) = walk::place_of(other, digest) {
+        return store::digest_at(other.bytes, i);
     }
     &first[0..0]
 }
 
 // The number of `find`.
-pub fn find_number(first: &[u8], second: &[u8], digest: &[u8]) -> u8
-    ensures { First (digest_refusals (Damaged first.now ⊎ Damaged second.now) digest.now) result }
+pub fn find_number(first: &[u8], second: &[u8], digest: &[u8]) -> Result<(), Refusal>
+    ensures { First (digest_refusals (Damaged first.now ⊎ Damaged second.now) digest.now) (number_of result) }
 {
-    refusal::of_two(first, second, digest)
+    refusal::of_two(first, second, digest)?;
+    Ok(())
 }

@@ -2,104 +2,123 @@
 // Fills a store to its capacities and damages it; prints what is found, a number each.
 ghost use Rattle.std.specs.Prelude.{◌≤◌, length};
 
+use printing::numbered;
+use rules::{Kind, Refusal};
 use std::io;
-use std::io::Write;
-use store::{Found, Gathered};
+use store::{LARGE, Record};
 
-// 32 bytes that begin with a number of two bytes, the highest first.
-fn digest_of(n: usize) -> [u8; 32] {
-    let mut d = [0u8; 32];
-    d[0] = (n / 256 % 256) as u8;
-    d[1] = (n % 256) as u8;
-    d
-}
-
-// Admits an operation to a sound store with room; answers 0, or 3, 6, 7 (held) or 5.
-fn put(s: &mut [u8], d: &[u8; 32], kind: u8, m: &[u8; 32], list: &[u8]) -> u8 {
+// Admits an operation to a sound store with room; answers whether its digest was new.
+fn put(
+    s: &mut [u8],
+    digest: &[u8; 32],
+    kind: Kind,
+    member: &[u8; 32],
+    list: &[u8],
+) -> Result<bool, Refusal> {
     if list.len() % 32 != 0 {
-        return 1;
+        return Err(Refusal::Shape);
     }
-    if 16 < list.len() / 32 {
-        return 2;
+    if LARGE.predecessors < list.len() / 32 {
+        return Err(Refusal::TooMany);
     }
-    if store::sound(s, 512, 16) {
-        let n = store::count(s);
-        if let Found::Nothing = store::look_up(s, n, d, 0) {
-            if n == 512 {
-                return 6;
-            }
-            let mut places = [0u16; 16];
-            if let Gathered::Places(c) = store::gather(s, n, list, &mut places) {
-                store::append(s, 512, 16, d, 0, kind, m, 0, &places, c);
-                return 0;
-            }
-            return 5;
-        }
-        return 7;
+    if !store::sound(s, LARGE) {
+        return Err(Refusal::Damaged);
     }
-    3
+    let n = store::count(s);
+    if store::look_up(s, n, digest).is_some() {
+        return Ok(false);
+    }
+    if n == LARGE.operations {
+        return Err(Refusal::Full);
+    }
+    let mut slots = [0u16; 16];
+    let Some(c) = store::gather(s, n, list, &mut slots) else {
+        return Err(Refusal::OutOfOrderOperation);
+    };
+    let kind = u8::from(kind);
+    let places = &slots[..c];
+    store::append(
+        s,
+        LARGE,
+        Record {
+            digest,
+            kind,
+            member,
+            places,
+        },
+    );
+    Ok(true)
 }
 
-// Whether a store is sound: 1 or 0.
+// What is printed: 0, a refusal's number, or 7 for a digest that is held.
+fn number(answer: Result<bool, Refusal>) -> u8 {
+    match answer {
+        Ok(true) => 0,
+        Ok(false) => 7,
+        Err(refusal) => refusal.number(),
+    }
+}
+
+// Makes the store fresh.
+fn fresh(s: &mut [u8]) -> Result<bool, Refusal> {
+    store::make_fresh(s, LARGE)?;
+    Ok(true)
+}
+
+// What is printed of soundness: 1 or 0, or 2 for no answer.
+fn bit(answer: Option<bool>) -> u8 {
+    answer.map_or(2, u8::from)
+}
+
+// Whether a store is sound.
 fn sound(s: &[u8]) -> u8 {
-    if store::sound(s, 512, 16) {
-        return 1;
-    }
-    0
+    bit(Some(store::sound(s, LARGE)))
 }
 
-// Whether the store is sound with byte p turned over; the byte is put back. 2 where there is no such byte.
-fn turned(s: &mut [u8], p: usize) -> u8 {
-    if p < s.len() {
-        let b = s[p];
-        s[p] = b ^ 255;
-        let r = sound(s);
-        s[p] = b;
-        return r;
+// Whether the store is sound with byte p turned over, if there is such a byte; it is put back.
+fn turned(s: &mut [u8], p: usize) -> Option<bool> {
+    if s.len() <= p {
+        return None;
     }
-    2
-}
-
-fn say(rt: &impl Print, label: &[u8], n: u64) -> io::Result<()> {
-    io::writer(rt).write_all(label)?;
-    println!(rt; "{n}")
+    s[p] ^= 255;
+    let answer = store::sound(s, LARGE);
+    s[p] ^= 255;
+    Some(answer)
 }
 
 // An update that lists the digest before.
-fn put_after(s: &mut [u8], d: &[u8; 32], before: &[u8; 32]) -> u8 {
-    let m = [0u8; 32];
-    put(s, d, 2, &m, before)
+fn put_after(s: &mut [u8], digest: &[u8; 32], before: &[u8; 32]) -> Result<bool, Refusal> {
+    put(s, digest, Kind::Update, &[0; 32], before)
 }
 
 // An add that lists nothing.
-fn put_add(s: &mut [u8], d: &[u8; 32]) -> u8 {
-    let m = [7u8; 32];
-    put(s, d, 0, &m, b"")
+fn put_add(s: &mut [u8], digest: &[u8; 32]) -> Result<bool, Refusal> {
+    put(s, digest, Kind::Add, &[7; 32], &[])
 }
 
-// Admits an add and then updates, each listing the one before it, until one is refused; answers the refusal.
-fn fill(s: &mut [u8]) -> u8 {
-    let mut before = digest_of(0);
-    let mut r = put_add(s, &before);
+// Admits an add and then updates, each listing the one before it, until one isn't admitted; answers what that one was answered.
+fn fill(s: &mut [u8]) -> Result<bool, Refusal> {
+    let mut before = numbered(0, 0);
+    let mut new = put_add(s, &before)?;
     for n in 1..600 {
-        if r != 0 {
-            return r;
+        if !new {
+            return Ok(false);
         }
-        let d = digest_of(n);
-        r = put_after(s, &d, &before);
-        before = d;
+        let digest = numbered(n, 0);
+        new = put_after(s, &digest, &before)?;
+        before = digest;
     }
-    r
+    Ok(new)
 }
 
 // Admits n adds.
-fn starts(s: &mut [u8], n: usize) -> u8 {
-    let mut r: u8 = 0;
+fn starts(s: &mut [u8], n: u16) -> Result<bool, Refusal> {
     for i in 0..n {
-        let d = digest_of(i);
-        r = put_add(s, &d);
+        if !put_add(s, &numbered(i, 0))? {
+            return Ok(false);
+        }
     }
-    r
+    Ok(true)
 }
 
 // Puts the digests 0 to 16 into a list.
@@ -112,85 +131,73 @@ fn seventeen(list: &mut [u8])
 }
 
 // An update that lists the first n digests of a list.
-fn put_listing(s: &mut [u8], number: usize, list: &[u8], n: usize) -> u8 {
-    let d = digest_of(number);
-    let m = [0u8; 32];
-    let e = 32 * (n % 18);
-    if e <= list.len() {
-        return put(s, &d, 2, &m, &list[..e]);
+fn put_listing(s: &mut [u8], number: u16, list: &[u8], n: usize) -> Result<bool, Refusal> {
+    let end = 32 * (n % 18);
+    if list.len() < end {
+        return Err(Refusal::Shape);
     }
-    1
+    put(
+        s,
+        &numbered(number, 0),
+        Kind::Update,
+        &[0; 32],
+        &list[..end],
+    )
 }
 
 // 512 operations.
 fn full(rt: &impl Print, s: &mut [u8]) -> io::Result<()> {
-    say(rt, b"fresh: ", store::make_fresh(s, 512) as u64)?;
-    say(rt, b"sound: ", sound(s) as u64)?;
-    say(rt, b"operation 513: ", fill(s) as u64)?;
-    say(
-        rt,
-        b"a held digest on a full store: ",
-        put_add(s, &digest_of(5)) as u64,
+    println!(rt; "fresh: {}", number(fresh(s)))?;
+    println!(rt; "sound: {}", sound(s))?;
+    println!(rt; "operation 513: {}", number(fill(s)))?;
+    println!(rt;
+        "a held digest on a full store: {}",
+        number(put_add(s, &numbered(5, 0)))
     )?;
-    say(rt, b"sound: ", sound(s) as u64)
+    println!(rt; "sound: {}", sound(s))
 }
 
 // 16 predecessors.
 fn slots(rt: &impl Print, s: &mut [u8], list: &[u8]) -> io::Result<()> {
-    say(rt, b"fresh: ", store::make_fresh(s, 512) as u64)?;
-    say(rt, b"17 adds: ", starts(s, 17) as u64)?;
-    say(
-        rt,
-        b"17 predecessors: ",
-        put_listing(s, 20, list, 17) as u64,
-    )?;
-    say(
-        rt,
-        b"16 predecessors: ",
-        put_listing(s, 20, list, 16) as u64,
-    )?;
-    say(rt, b"sound: ", sound(s) as u64)
+    println!(rt; "fresh: {}", number(fresh(s)))?;
+    println!(rt; "17 adds: {}", number(starts(s, 17)))?;
+    println!(rt; "17 predecessors: {}", number(put_listing(s, 20, list, 17)))?;
+    println!(rt; "16 predecessors: {}", number(put_listing(s, 20, list, 16)))?;
+    println!(rt; "sound: {}", sound(s))
 }
 
 // A byte turned over, of digests, members and kinds.
 fn damages(rt: &impl Print, s: &mut [u8]) -> io::Result<()> {
-    say(rt, b"an add's member: ", turned(s, 96) as u64)?;
-    say(
-        rt,
-        b"a digest that nothing lists: ",
-        turned(s, 64 + 98 * 17) as u64,
+    println!(rt; "an add's member: {}", bit(turned(s, 96)))?;
+    println!(rt;
+        "a digest that nothing lists: {}",
+        bit(turned(s, 64 + 98 * 17))
     )?;
-    say(rt, b"a digest that is listed: ", turned(s, 64) as u64)?;
-    say(rt, b"an update's member: ", turned(s, 96 + 98 * 17) as u64)?;
-    say(rt, b"a kind: ", turned(s, 128) as u64)
+    println!(rt; "a digest that is listed: {}", bit(turned(s, 64)))?;
+    println!(rt; "an update's member: {}", bit(turned(s, 96 + 98 * 17)))?;
+    println!(rt; "a kind: {}", bit(turned(s, 128)))
 }
 
 // A byte turned over, of the slots and of what no record has.
 fn more_damages(rt: &impl Print, s: &mut [u8]) -> io::Result<()> {
-    say(
-        rt,
-        b"a number of predecessors: ",
-        turned(s, 129 + 98 * 17) as u64,
+    println!(rt;
+        "a number of predecessors: {}",
+        bit(turned(s, 129 + 98 * 17))
     )?;
-    say(
-        rt,
-        b"a predecessor's place: ",
-        turned(s, 130 + 98 * 17) as u64,
+    println!(rt; "a predecessor's place: {}", bit(turned(s, 130 + 98 * 17)))?;
+    println!(rt; "a free slot: {}", bit(turned(s, 130)))?;
+    println!(rt;
+        "a byte after the last record: {}",
+        bit(turned(s, 64 + 98 * 18))
     )?;
-    say(rt, b"a free slot: ", turned(s, 130) as u64)?;
-    say(
-        rt,
-        b"a byte after the last record: ",
-        turned(s, 64 + 98 * 18) as u64,
-    )?;
-    say(rt, b"the last byte: ", turned(s, 50239) as u64)
+    println!(rt; "the last byte: {}", bit(turned(s, 50239)))
 }
 
 // A byte turned over, of the store's first bytes; then none.
 fn first_bytes(rt: &impl Print, s: &mut [u8]) -> io::Result<()> {
-    say(rt, b"a reserved byte: ", turned(s, 2) as u64)?;
-    say(rt, b"the count: ", turned(s, 0) as u64)?;
-    say(rt, b"none: ", sound(s) as u64)
+    println!(rt; "a reserved byte: {}", bit(turned(s, 2)))?;
+    println!(rt; "the count: {}", bit(turned(s, 0)))?;
+    println!(rt; "none: {}", sound(s))
 }
 
 fn main(rt: HostRuntime) -> io::Result<()> {

@@ -1,9 +1,8 @@
 // The graph: making a store fresh, admission, and the questions about operations.
-pub use admission::{AddAnswer, add_op, fresh};
+pub use admission::{add_op, fresh};
 pub use ask::{
-    DepthAnswer, YesNo, added_member, added_member_number, contains_all, contains_op_hash, depth,
-    find, find_number, has_add_before, has_single_head, is_chainable,
+    added_member, added_member_number, contains_all, contains_op_hash, depth, find, find_number,
+    has_add_before, has_single_head, is_chainable,
 };
 pub use lists::{children_of, nearest_update_ancestors, predecessors_for};
 pub use merging::merge;
-pub use order::ListAnswer;

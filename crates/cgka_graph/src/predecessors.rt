@@ -1,3 +1,2 @@
 // Predecessor sets: the heads of a graph.
 pub use lists::heads;
-pub use order::ListAnswer;

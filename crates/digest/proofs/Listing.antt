@@ -2,23 +2,25 @@
 -- Assumes nothing.
 use Prim.Native.Nat.{ℕ, ◌+◌, ◌*◌, ◌/◌, ◌-◌, ◌≤◌, ◌<◌}
 use native.Mathlib.Omega.{arith}
-use native.Mathlib.Decide.{ℕ_discrete, dec_lt}
+use native.Mathlib.Decide.{ℕ_discrete}
 use mathlib.Core.Path.{◌≡◌, refl, sym, ◌∙◌, ap, subst}
 use mathlib.Core.Bool.{Bool, true, false}
 use mathlib.Core.Logic.{◌⊎◌, inl, inr}
 use mathlib.Core.List.{List}
-use lib.ListN.{length, get_or}
+use lib.ListN.{length, get_or, take}
+use Rattle.std.proofs.lemmas.List.{get_or-take, length-take-le}
 use lib.Dec.{leb}
+use Rattle.std.specs.Prelude.{Some, None}
 use borrow.Author.Tests.{leb-true, leb-false}
 use Rattle.rules.specs.Bytes.{number_at, digests_of}
 use Rattle.rules.specs.Lists.{◌∈◌}
 use Rattle.rules.specs.Log.{choose}
-use Rattle.rules.proofs.Bytes.{row_in, in_row}
+use Rattle.std.specs.List.{CopiedTo, SameBelow, SameFrom}
+use Rattle.rules.proofs.Bytes.{row_in, in_row, number_same}
 use Rattle.rules.proofs.Insertion.{Inserts, inserted_order, inserted_into, inserted_back}
-use Rattle.digest.specs.Lists.{next_at, nth, Unfalling, Among, Inserted, Ordered, none, more}
+use Rattle.digest.specs.Lists.{next_at, nth, Unfalling, Among, SplitAt, Inserted, Ordered, none, more}
 use Rattle.digest.specs.Writes.{Copied}
 use Rattle.digest.specs.declared.Cursor.{Cursor}
-use Rattle.digest.specs.declared.Next.TheVariants.{Digest, Done}
 use Rattle.digest.proofs.Writing.{copied_number, written_number}
 
 pub rising_le : (s : List ℕ) (n : ℕ) → Unfalling s n → (i j : ℕ) → i ≤ j → j < n → nth s i ≤ nth s j
@@ -28,15 +30,34 @@ rising_le s n r i j h l = go (ℕ_discrete i j)
     go (yes e) = rw e (omega arith)
     go (no x) = r i j (omega arith) l
 
+-- the front of a list, cut after n digests, has these n
+module _ (s : List ℕ) (n : ℕ) (h : 32 * n ≤ length s) where
+  pub front_count : length (take (32 * n) s) / 32 ≡ n
+  front_count = omega (arith, length-take-le (32 * n) s h)
+
+  front_nth : (k : ℕ) → k < n → nth (take (32 * n) s) k ≡ nth s k
+  front_nth k l = number_same (take (32 * n) s) s (32 * k) (32 * k) 32 (λ j m. get_or-take (32 * n) s (32 * k + j) 0 (omega arith))
+
+  pub front_unfalling : Unfalling s n → Unfalling (take (32 * n) s) (length (take (32 * n) s) / 32)
+  front_unfalling u = rw front_count (λ i j l m. omega (arith, u i j l m, front_nth i (omega arith), front_nth j m))
+
+  pub front_split : (x slot : ℕ) → SplitAt (take (32 * n) s) (length (take (32 * n) s) / 32) x slot → SplitAt s n x slot
+  front_split x slot p =
+      let q = rw front_count at p in
+      record { within = q.within; under = λ k l. omega (arith, q.under k l, q.within, front_nth k (omega (arith, q.within))); over = λ k l m. omega (arith, q.over k l m, front_nth k m) }
+
+  pub front_into : (x : ℕ) → Among (take (32 * n) s) (length (take (32 * n) s) / 32) x → Among s n x
+  front_into x a = let b = rw front_count at a in record { place = b.place; within = b.within; there = sym (front_nth b.place b.within) ∙ b.there }
+
+  pub front_back : (x : ℕ) → Among s n x → Among (take (32 * n) s) (length (take (32 * n) s) / 32) x
+  front_back x a = rw front_count (record { place = a.place; within = a.within; there = front_nth a.place a.within ∙ a.there })
+
 -- the search for x has left the places from low up to high
 pub record Halved (s : List ℕ) (n x low high : ℕ) : Type 0 where
   pub order : low ≤ high
   pub within : high ≤ n
   pub below : (k : ℕ) → k < low → nth s k < x
   pub above : (k : ℕ) → high ≤ k → k < n → x < nth s k
-
-pub halved_all : (s : List ℕ) (n x : ℕ) → Halved s n x 0 n
-halved_all s n x = record { order = omega arith; within = omega arith; below = λ k h. absurd (omega arith); above = λ k h l. absurd (omega arith) }
 
 module _ {s : List ℕ} {n x low high : ℕ} (H : Halved s n x low high) where
   pub halved_up : (m : ℕ) → Unfalling s n → m < high → nth s m < x → Halved s n x (m + 1) high
@@ -45,61 +66,29 @@ module _ {s : List ℕ} {n x low high : ℕ} (H : Halved s n x low high) where
   pub halved_down : (m : ℕ) → Unfalling s n → low ≤ m → m < high → x < nth s m → Halved s n x low m
   halved_down m r g h l = record { order = g; within = omega arith; below = H.below; above = λ k b w. omega (arith, rising_le s n r m k b w) }
 
-  pub halved_none : high ≤ low → ¬ Among s n x
-  halved_none h a = go (dec_lt a.place low)
-    where
-      go : Dec (a.place < low) → ⊥
-      go (yes l) = omega (arith, H.below a.place l, a.there)
-      go (no l) = omega (arith, H.above a.place (omega arith) a.within, a.there)
+-- the digests of s from the slot up to n are copied one place further, and x into the slot
+module _ {s t u d : List ℕ} {n slot at : ℕ} (P : SplitAt s n (number_at d at 32) slot) (e : length t ≡ length s) (moved : CopiedTo s t (32 * slot) (32 * (slot + 1)) (32 * n - 32 * slot)) (below : SameBelow s t (32 * (slot + 1))) (above : SameFrom s t (32 * (slot + 1) + (32 * n - 32 * slot))) (C : Copied t u (32 * slot) d at 32) where
+  stays : (k : ℕ) → k < slot → nth u k ≡ nth s k
+  stays k h = written_number (32 * k) 32 C.written (inl (omega arith)) ∙ number_same t s (32 * k) (32 * k) 32 (λ j l. below (32 * k + j) 0 (omega arith))
 
--- the digests of s from j up to n stand one place further in t, and each is above x; what lies past them is as in s
-pub record Moved (s t : List ℕ) (n j x : ℕ) : Type 0 where
-  pub size : length t ≡ length s
-  pub within : j ≤ n
-  pub low : (k : ℕ) → k < j → nth t k ≡ nth s k
-  pub high : (k : ℕ) → j < k → k ≤ n → nth t k ≡ nth s (k - 1)
-  pub over : (k : ℕ) → j ≤ k → k < n → x < nth s k
-  pub rest : (k : ℕ) → 32 * (n + 1) ≤ k → get_or t k 0 ≡ get_or s k 0
+  moves : (k : ℕ) → slot < k → k ≤ n → nth u k ≡ nth s (k - 1)
+  moves k h l =
+      written_number (32 * k) 32 C.written (inr (omega arith)) ∙
+      number_same t s (32 * k) (32 * (k - 1)) 32 (λ j m. moved (32 * k + j) 0 (omega arith) (omega arith) ∙ ap (λ i. get_or s i 0) (omega arith))
 
-pub moved_none : (s : List ℕ) (n x : ℕ) → Moved s s n n x
-moved_none s n x = record { size = refl; within = omega arith; low = λ k h. refl; high = λ k h l. absurd (omega arith); over = λ k h l. absurd (omega arith); rest = λ k h. refl }
-
-pub moved_more : {s t u : List ℕ} {n j x : ℕ} → Moved s t n j x → 0 < j → x < nth t (j - 1) → Copied t u (32 * j) t (32 * (j - 1)) 32 → Moved s u n (j - 1) x
-moved_more {s} {t} {u} {n} {j} {x} M p g C =
-    record {
-      size = C.written.size ∙ M.size;
-      within = omega arith;
-      low = λ k h. written_number (32 * k) 32 C.written (inl (omega arith)) ∙ M.low k (omega arith);
-      high = λ k h l. high k l (omega arith) (ℕ_discrete k j);
-      over = λ k h l. over k l (omega arith) (ℕ_discrete k (j - 1));
-      rest = λ k h. C.written.above k (omega (arith, M.within)) ∙ M.rest k h;
-    }
-  where
-    last : nth t (j - 1) ≡ nth s (j - 1)
-    last = M.low (j - 1) (omega arith)
-
-    high : (k : ℕ) → k ≤ n → j ≤ k → Dec (k ≡ j) → nth u k ≡ nth s (k - 1)
-    high k l h (yes e) = rw e (copied_number C ∙ last)
-    high k l h (no x) = written_number (32 * k) 32 C.written (inr (omega arith)) ∙ M.high k (omega arith) l
-
-    over : (k : ℕ) → k < n → j ≤ k + 1 → Dec (k ≡ j - 1) → x < nth s k
-    over k l h (yes e) = rw e (omega (arith, last))
-    over k l h (no x) = M.over k (omega arith) l
-
--- place j is filled with a digest that is not below the one before it
-pub inserted : {s t u d : List ℕ} {n j at : ℕ} → Unfalling s n → Moved s t n j (number_at d at 32) → (0 < j → nth t (j - 1) ≤ number_at d at 32) → Copied t u (32 * j) d at 32 → Inserted s u n (number_at d at 32)
-inserted {s} {t} {u} {d} {n} {j} {at} r M b C =
-    record {
-      size = C.written.size ∙ M.size;
-      slot = j;
-      within = M.within;
-      low = λ k h. written_number (32 * k) 32 C.written (inl (omega arith)) ∙ M.low k h;
-      here = copied_number C;
-      high = λ k h l. written_number (32 * k) 32 C.written (inr (omega arith)) ∙ M.high k h l;
-      under = λ k h. omega (arith, b (omega arith), M.low (j - 1) (omega arith), rising_le s n r k (j - 1) (omega arith) (omega (arith, M.within)));
-      over = M.over;
-      rest = λ k h. C.written.above k (omega (arith, M.within)) ∙ M.rest k h;
-    }
+  pub inserted : Inserted s u n (number_at d at 32)
+  inserted =
+      record {
+        size = C.written.size ∙ e;
+        slot = slot;
+        within = P.within;
+        low = stays;
+        here = copied_number C;
+        high = moves;
+        under = P.under;
+        over = P.over;
+        rest = λ j h. C.written.above j (omega (arith, P.within)) ∙ above j 0 (omega (arith, P.within));
+      }
 
 -- one digest more of a list
 pub among_wider : {l : List ℕ} {k d : ℕ} → Among l k d → Among l (k + 1) d
@@ -155,10 +144,6 @@ pub ordered_sorted : {s l t : List ℕ} {n : ℕ} → Ordered s l t n → InOrde
 ordered_sorted none = record { rising = λ i j h l. absurd (omega arith); into = λ x a. absurd (omega (arith, a.within)); back = λ x a. absurd (omega (arith, a.within)) }
 ordered_sorted (more O I) = sorted_more (ordered_sorted O) I
 
-pub ordered_size : {s l t : List ℕ} {n : ℕ} → Ordered s l t n → length t ≡ length s
-ordered_size none = refl
-ordered_size (more O I) = I.size ∙ ordered_size O
-
 -- all digests of a list
 module _ {s l t : List ℕ} {n : ℕ} (O : Ordered s l t n) (e : n ≡ length l / 32) (x : ℕ) where
   pub ordered_into : Among t n x → x ∈ digests_of l
@@ -169,16 +154,22 @@ module _ {s l t : List ℕ} {n : ℕ} (O : Ordered s l t n) (e : n ≡ length l 
 
 -- what the cursor answered
 module _ (n p : ℕ) where
-  digest_cases : (b : Bool) → leb (p + 32) n ≡ b → (q : ℕ) (c : Cursor) → choose b (Digest p (record { at = p + 32 })) Done ≡ Digest q c → (p + 32 ≤ n) × (q ≡ p) × (c.at ≡ p + 32)
-  digest_cases true t q c e = let h : c ≡ record { at = p + 32 } = cc in (leb-true _ _ t, cc, ap (λ (x : Cursor). x.at) h)
-  digest_cases false t q c e = let z : ◌≡◌ {A = ℕ} 0 1 = cc in absurd (omega arith)
+  more_at : ℕ × Cursor
+  more_at = (p, record { at = p + 32 })
 
-  pub next_digest : (q : ℕ) (c : Cursor) → next_at n p ≡ Digest q c → (p + 32 ≤ n) × (q ≡ p) × (c.at ≡ p + 32)
+  digest_cases : (b : Bool) → leb (p + 32) n ≡ b → (q : ℕ × Cursor) → choose b (Some more_at) None ≡ Some q → (p + 32 ≤ n) × (q.0 ≡ p) × (q.1.at ≡ p + 32)
+  unfolding more_at
+  digest_cases true t q e = let h : more_at ≡ q = cc in (leb-true _ _ t, ap (λ (x : ℕ × Cursor). x.0) (sym h), ap (λ (x : ℕ × Cursor). x.1.at) (sym h))
+  digest_cases false t q e = absurd cc
+
+  pub next_digest : (q : ℕ × Cursor) → next_at n p ≡ Some q → (p + 32 ≤ n) × (q.0 ≡ p) × (q.1.at ≡ p + 32)
+  unfolding more_at
   next_digest = digest_cases (leb (p + 32) n) refl
 
-  done_cases : (b : Bool) → leb (p + 32) n ≡ b → choose b (Digest p (record { at = p + 32 })) Done ≡ Done → n < p + 32
-  done_cases true t e = let z : ◌≡◌ {A = ℕ} 0 1 = cc in absurd (omega arith)
+  done_cases : (b : Bool) → leb (p + 32) n ≡ b → choose b (Some more_at) None ≡ None → n < p + 32
+  done_cases true t e = absurd cc
   done_cases false t e = leb-false _ _ t
 
-  pub next_done : next_at n p ≡ Done → n < p + 32
+  pub next_done : next_at n p ≡ None → n < p + 32
+  unfolding more_at
   next_done = done_cases (leb (p + 32) n) refl

@@ -1,32 +1,60 @@
--- What an answer of compare rules out.
+-- Comparing bytes is comparing their numbers; what an answer of compare rules out.
 -- Assumes nothing.
-use Prim.Native.Nat.{ℕ, ◌≤◌, ◌<◌}
+use Prim.Native.Nat.{ℕ, suc, ◌+◌, ◌<◌}
 use native.Mathlib.Omega.{arith}
 use mathlib.Core.Path.{◌≡◌, refl, subst}
+use mathlib.Core.List.{List, [], ◌∷◌}
+use lib.ListN.{length, get_or}
+use Rattle.std.specs.Cmp.Lexicographic.{slice_cmp}
+use Rattle.std.specs.Ordering.{nat_cmp, ordering_then, MatchOrdering, is_gt, is_eq, is_lt}
+use Rattle.rules.specs.Answers.{Says}
+use Rattle.std.proofs.lemmas.Cmp.{ranked}
+use Rattle.rules.specs.Bytes.{number_at}
+use Rattle.rules.proofs.Bytes.{number_front, number_less}
 use Rattle.digest.specs.Order.{Stands}
-use Rattle.digest.specs.declared.Order.{Order}
-use Rattle.digest.specs.declared.Order.TheVariants.{Less, Equal, Greater}
+use Rattle.std.specs.declared.cmp.Ordering.{Ordering}
+use Rattle.std.specs.declared.cmp.Ordering.TheVariants.{Less, Equal, Greater}
 
-pub stands_apart : (o : Order) {x y : ℕ} → Stands o x y → (o ≡ Equal → ⊥) → x ≡ y → ⊥
-stands_apart Less t n e = omega (arith, t)
-stands_apart Equal t n e = n refl
-stands_apart Greater t n e = omega (arith, t)
-
-pub stands_equal : (o : Order) {x y : ℕ} → Stands o x y → o ≡ Equal → x ≡ y
+pub stands_equal : (o : Ordering) {x y : ℕ} → Stands o x y → o ≡ Equal → x ≡ y
 stands_equal o {x} {y} t e = subst (λ r. Stands r x y) e t
 
-pub stands_less : (o : Order) {x y : ℕ} → Stands o x y → o ≡ Less → x < y
+pub stands_less : (o : Ordering) {x y : ℕ} → Stands o x y → o ≡ Less → x < y
 stands_less o {x} {y} t e = subst (λ r. Stands r x y) e t
 
-pub stands_greater : (o : Order) {x y : ℕ} → Stands o x y → o ≡ Greater → y < x
+pub stands_greater : (o : Ordering) {x y : ℕ} → Stands o x y → o ≡ Greater → y < x
 stands_greater o {x} {y} t e = subst (λ r. Stands r x y) e t
 
-pub stands_not_less : (o : Order) {x y : ℕ} → Stands o x y → (o ≡ Less → ⊥) → x < y → ⊥
-stands_not_less Less t n e = n refl
-stands_not_less Equal t n e = omega (arith, t)
-stands_not_less Greater t n e = omega (arith, t)
+-- the same before both
+stands_after : (o : Ordering) (h x y : ℕ) → Stands o x y → Stands o (h + x) (h + y)
+stands_after Less h x y t = omega (arith, t)
+stands_after Equal h x y t = omega (arith, t)
+stands_after Greater h x y t = omega (arith, t)
 
-pub stands_not_greater : (o : Order) {x y : ℕ} → Stands o x y → (o ≡ Greater → ⊥) → x ≤ y
-stands_not_greater Less t n = omega (arith, t)
-stands_not_greater Equal t n = omega (arith, t)
-stands_not_greater Greater t n = absurd (n refl)
+-- bytes in the order of the library stand as their numbers do
+pub cmp_stands : (xs ys : List ℕ) (n : ℕ) → length xs ≡ n → length ys ≡ n → ((i : ℕ) → get_or xs i 0 < 256) → ((i : ℕ) → get_or ys i 0 < 256) → Stands (slice_cmp nat_cmp xs ys) (number_at xs 0 n) (number_at ys 0 n)
+unfolding number_at
+cmp_stands [] [] n e f a b = let z : n ≡ 0 = omega arith in rw z refl
+cmp_stands [] (y ∷ ys) n e f a b = absurd (omega arith)
+cmp_stands (x ∷ xs) [] n e f a b = absurd (omega arith)
+cmp_stands (x ∷ xs) (y ∷ ys) n e f a b = let z : n ≡ 1 + length xs = omega arith in rw z (step (nat_cmp x y) (ranked x y _ refl) (cmp_stands xs ys (length xs) refl (omega arith) (λ i. a (suc i)) (λ i. b (suc i))))
+  where
+    step : (o : Ordering) → MatchOrdering o (x < y) (x ≡ y) (y < x) → Stands (slice_cmp nat_cmp xs ys) (number_at xs 0 (length xs)) (number_at ys 0 (length xs)) → Stands (ordering_then o (slice_cmp nat_cmp xs ys)) (number_at (x ∷ xs) 0 (1 + length xs)) (number_at (y ∷ ys) 0 (1 + length xs))
+    step Less h t = number_less (x ∷ xs) (y ∷ ys) 0 0 1 (1 + length xs) a b (omega arith) (omega arith)
+    step Equal h t = rw (number_front x xs (length xs), number_front y ys (length xs), h) (stands_after (slice_cmp nat_cmp xs ys) _ _ _ t)
+    step Greater h t = number_less (y ∷ ys) (x ∷ xs) 0 0 1 (1 + length xs) b a (omega arith) (omega arith)
+
+-- the tests of an answer
+pub says_gt : (o : Ordering) (x y : ℕ) → Stands o x y → Says (is_gt o) (y < x)
+says_gt Less x y t = λ l. omega (arith, t)
+says_gt Equal x y t = λ l. omega (arith, t)
+says_gt Greater x y t = t
+
+pub says_eq : (o : Ordering) (x y : ℕ) → Stands o x y → Says (is_eq o) (x ≡ y)
+says_eq Less x y t = λ l. omega (arith, t)
+says_eq Equal x y t = t
+says_eq Greater x y t = λ l. omega (arith, t)
+
+pub says_lt : (o : Ordering) (x y : ℕ) → Stands o x y → Says (is_lt o) (x < y)
+says_lt Less x y t = t
+says_lt Equal x y t = λ l. omega (arith, t)
+says_lt Greater x y t = λ l. omega (arith, t)

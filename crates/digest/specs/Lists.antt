@@ -1,14 +1,13 @@
 -- The cursor over a list of digests, and lists in ascending order.
 -- Assumes nothing.
-use Rattle.std.specs.Prelude.{ℕ, ◌+◌, ◌-◌, ◌*◌, ◌≤◌, ◌<◌, ◌≡◌, List, length, get_or, leb}
+use Rattle.std.specs.Prelude.{ℕ, Option, Some, None, ◌+◌, ◌-◌, ◌*◌, ◌≤◌, ◌<◌, ◌≡◌, List, length, get_or, leb}
 use Rattle.rules.specs.Bytes.{number_at}
 use Rattle.rules.specs.Log.{choose}
-use Rattle.digest.specs.declared.Next.{Next}
-use Rattle.digest.specs.declared.Next.TheVariants.{Digest, Done}
+use Rattle.digest.specs.declared.Cursor.{Cursor}
 
 -- the cursor at a place of a list of n bytes: a digest's place and the cursor one place further, or no more
-abbrev pub next_at : ℕ → ℕ → Next
-next_at n p = choose (leb (p + 32) n) (Digest p (record { at = p + 32 })) Done
+abbrev pub next_at : ℕ → ℕ → Option (ℕ × Cursor)
+next_at n p = choose (leb (p + 32) n) (Some (p, record { at = p + 32 })) None
 
 -- the k-th digest of a list
 abbrev pub nth : List ℕ → ℕ → ℕ
@@ -23,6 +22,12 @@ pub record Among (s : List ℕ) (n x : ℕ) : Type 0 where
   pub place : ℕ
   pub within : place < n
   pub there : nth s place ≡ x
+
+-- of the first n digests of s, those before the slot are at most x, the others above it
+pub record SplitAt (s : List ℕ) (n x slot : ℕ) : Type 0 where
+  pub within : slot ≤ n
+  pub under : (k : ℕ) → k < slot → nth s k ≤ x
+  pub over : (k : ℕ) → slot ≤ k → k < n → x < nth s k
 
 -- t has the first n digests of s and x among them: those up to x below its slot, the others one place further, all else as in s
 pub record Inserted (s t : List ℕ) (n x : ℕ) : Type 0 where

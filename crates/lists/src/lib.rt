@@ -3,114 +3,78 @@
 ghost use Rattle.std.specs.Prelude.{◌≤◌, ◌<◌, ◌≡◌, length};
 ghost use Rattle.rules.specs.Table.{most_listed};
 ghost use Rattle.rules.specs.Calls.{Heads, NearestUpdateAncestors, PredecessorsFor, ChildrenOf};
+ghost use Rattle.rules.specs.Numbers.{number_of, value_of};
 ghost use Rattle.store.specs.Layout.{count_of, preds_at, pred_at, ops_of};
 ghost use Rattle.refusal.specs.Damage.{Damaged};
-ghost use Rattle.walk.specs.Marks.{Ready, Front};
+ghost use Rattle.walk.specs.Marks.{Front};
 
-use order::ListAnswer;
-use store::Found;
+use rules::Refusal;
+use store::Graph;
 
 // The heads.
-pub fn heads(store: &[u8], out: &mut [u8]) -> ListAnswer
-    ensures { Heads (Damaged store.now) (ops_of store.now) out.old out.new result.number result.count }
+pub fn heads(store: &[u8], out: &mut [u8]) -> Result<usize, Refusal>
+    ensures { Heads (Damaged store.now) (ops_of store.now) out.old out.new (number_of result) (value_of result) }
 {
-    let refused = refusal::of_store(store);
-    if refused != 0 {
-        return ListAnswer {
-            number: refused,
-            count: 0,
-        };
-    }
+    let graph = refusal::of_store(store)?;
     let mut marks = [0u8; 512];
     let mut places = [0u16; 512];
-    walk::mark_heads(store, &mut marks);
-    order::write_set(store, &marks, &mut places, out)
+    walk::mark_heads(graph, &mut marks);
+    order::write_set(graph, &marks, &mut places, out)
 }
 
 // The nearest updates of a list: those met first going back from it. Digests that aren't held are skipped.
-pub fn nearest_update_ancestors(store: &[u8], list: &[u8], out: &mut [u8]) -> ListAnswer
-    ensures { NearestUpdateAncestors most_listed (Damaged store.now) (ops_of store.now) list.now out.old out.new result.number result.count }
+pub fn nearest_update_ancestors(store: &[u8], list: &[u8], out: &mut [u8]) -> Result<usize, Refusal>
+    ensures { NearestUpdateAncestors most_listed (Damaged store.now) (ops_of store.now) list.now out.old out.new (number_of result) (value_of result) }
 {
-    let refused = refusal::of_list(store, list);
-    if refused != 0 {
-        return ListAnswer {
-            number: refused,
-            count: 0,
-        };
-    }
+    let graph = refusal::of_list(store, list)?;
     let mut marks = [0u8; 512];
     let mut places = [0u16; 512];
-    walk::mark_held(store, list, &mut marks);
-    walk::nearest(store, &mut marks);
-    order::write_set(store, &marks, &mut places, out)
+    walk::mark_held(graph, list, &mut marks);
+    walk::nearest(graph, &mut marks);
+    order::write_set(graph, &marks, &mut places, out)
 }
 
 // The operations that list a digest; none for a digest that isn't held.
-pub fn children_of(store: &[u8], digest: &[u8], out: &mut [u8]) -> ListAnswer
-    ensures { ChildrenOf (Damaged store.now) (ops_of store.now) digest.now out.old out.new result.number result.count }
+pub fn children_of(store: &[u8], digest: &[u8], out: &mut [u8]) -> Result<usize, Refusal>
+    ensures { ChildrenOf (Damaged store.now) (ops_of store.now) digest.now out.old out.new (number_of result) (value_of result) }
 {
-    let refused = refusal::of_digest(store, digest);
-    if refused != 0 {
-        return ListAnswer {
-            number: refused,
-            count: 0,
-        };
-    }
-    if let Found::At(i) = walk::place_of(store, digest) {
-        let mut marks = [0u8; 512];
-        let mut places = [0u16; 512];
-        walk::children(store, i, &mut marks);
-        return order::write_set(store, &marks, &mut places, out);
-    }
-    ListAnswer {
-        number: 0,
-        count: 0,
-    }
+    let graph = refusal::of_digest(store, digest)?;
+    let Some(i) = walk::place_of(graph, digest) else {
+        return Ok(0);
+    };
+    let mut marks = [0u8; 512];
+    let mut places = [0u16; 512];
+    walk::children(graph, i, &mut marks);
+    order::write_set(graph, &marks, &mut places, out)
 }
 
-// Copies the places that record i lists; answers how many.
-fn copy_preds(store: &[u8], i: usize, places: &mut [u16]) -> usize
-    requires ready { Ready store.now (count_of store.now) }
-    requires i_bound { (i < count_of store.now) × (16 ≤ length places.old) }
-    ensures { (result ≡ preds_at store.now i) × Front (pred_at store.now i) places.old places.new result }
+// Copies the places that record i lists; answers how many. One loop with `merging::map_slots` would take a closure and say its `post`
+// for each slot, which is longer than either.
+fn copy_preds(graph: Graph, i: usize, places: &mut [u16]) -> usize
+    requires { (i < count_of graph.bytes.now) × (16 ≤ length places.old) }
+    ensures { (result ≡ preds_at graph.entry.bytes.now i) × Front (pred_at graph.entry.bytes.now i) places.old places.new result }
 {
-    let c = store::preds_at(store, i);
-    let mut k: usize = 0;
-    while k < c {
-        places[k] = store::pred_at(store, i, k) as u16;
-        k += 1;
+    let c = store::preds_at(graph.bytes, i);
+    for k in 0..c {
+        // A place fits two bytes.
+        places[k] = store::pred_at(graph.bytes, i, k) as u16;
     }
     c
 }
 
 // The predecessors of an operation. The store has them in ascending order already.
-pub fn predecessors_for(store: &[u8], digest: &[u8], out: &mut [u8]) -> ListAnswer
-    ensures { PredecessorsFor (Damaged store.now) (ops_of store.now) digest.now out.old out.new result.number result.count }
+pub fn predecessors_for(store: &[u8], digest: &[u8], out: &mut [u8]) -> Result<usize, Refusal>
+    ensures { PredecessorsFor (Damaged store.now) (ops_of store.now) digest.now out.old out.new (number_of result) (value_of result) }
 {
-    let refused = refusal::of_digest(store, digest);
-    if refused != 0 {
-        return ListAnswer {
-            number: refused,
-            count: 0,
-        };
+    let graph = refusal::of_digest(store, digest)?;
+    let Some(i) = walk::place_of(graph, digest) else {
+        return Err(Refusal::OperationNotFound);
+    };
+    let mut places = [0u16; 16];
+    let c = copy_preds(graph, i, &mut places);
+    if out.len() < 32 * c {
+        return Err(Refusal::NoRoom);
     }
-    if let Found::At(i) = walk::place_of(store, digest) {
-        let mut places = [0u16; 16];
-        let c = copy_preds(store, i, &mut places);
-        if out.len() < 32 * c {
-            return ListAnswer {
-                number: 9,
-                count: 0,
-            };
-        }
-        order::write_digests(store, &places, c, out);
-        return ListAnswer {
-            number: 0,
-            count: c,
-        };
-    }
-    ListAnswer {
-        number: 7,
-        count: 0,
-    }
+    order::write_digests(graph, &places[..c], out);
+    Ok(c)
 }

@@ -7,6 +7,7 @@ use mathlib.Core.Path.{◌≡◌, refl, sym, ◌∙◌, ap, subst}
 use mathlib.Core.List.{List, [], ◌∷◌, ◌++◌}
 use lib.ListN.{length, get_or, set, length-set, length-append}
 use lib.Seq.{get_or-set_same, get_or-set_other}
+use Rattle.std.specs.Prelude.{Option, Some, None}
 use Rattle.rules.specs.Bytes.{row}
 use Rattle.rules.specs.Graph.{Op, Held}
 use Rattle.rules.specs.Merge.{Clash, Differ, kinds, members, sets, no_more}
@@ -16,9 +17,7 @@ use Rattle.rules.proofs.Merge.{missing_has, missing_lacks}
 use Rattle.store.specs.Layout.{count_of, digest_at, member_at, kind_at, preds_at, pred_at, op_of, ops_of}
 use Rattle.walk.specs.Marks.{Ready}
 use Rattle.walk.proofs.Places.{held_at, one_place, op_at_lem}
-use Rattle.merging.specs.declared.Compared.{Compared}
-use Rattle.merging.specs.declared.Compared.TheVariants.{Clashes, Lacks}
-use Rattle.merging.specs.Places.{SameSlots, Compares, PlaceIn, held, lacks, Placement, Agrees}
+use Rattle.merging.specs.Places.{Places, SameSlots, PlaceIn, held, lacks, Placement, Agrees}
 
 module _ (s : List ℕ) (p : ℕ) (o : List ℕ) (i : ℕ) where
   pub record_same : digest_at s p ≡ digest_at o i → kind_at s p ≡ kind_at o i → member_at s p ≡ member_at o i → preds_at s p ≡ preds_at o i → SameSlots s p o i (preds_at s p) → op_of s p ≡ op_of o i
@@ -54,19 +53,19 @@ clash_at {s} {o} {k = k} {i = i} R O l f n =
     }
 
 -- a place more is written
-placed_more : {s o p q : List ℕ} {i v : ℕ} → i < length q → Placement s o p q i → PlaceIn s (digest_at o i) v → Placement s o p (set q i v) (i + 1)
+placed_more : {s o : List ℕ} {p q : Places} {i : ℕ} {v : Option ℕ} → i < length q → Placement s o p q i → PlaceIn s (digest_at o i) v → Placement s o p (set q i v) (i + 1)
 placed_more {s} {o} {p} {q} {i} {v} b W x =
     record {
       size = length-set q i v ∙ W.size;
       there = λ j l. go j l (ℕ_discrete j i);
-      rest = λ j l. get_or-set_other q i j v 0 (λ e. omega arith) ∙ W.rest j (omega arith);
+      rest = λ j l. get_or-set_other q i j v None (λ e. omega arith) ∙ W.rest j (omega arith);
     }
   where
-    go : (j : ℕ) → j < i + 1 → Dec (j ≡ i) → PlaceIn s (digest_at o j) (get_or (set q i v) j 0)
-    go j l (yes e) = rw e (rw (get_or-set_same q i v 0 b) x)
-    go j l (no n) = rw (get_or-set_other q i j v 0 n) (W.there j (omega arith))
+    go : (j : ℕ) → j < i + 1 → Dec (j ≡ i) → PlaceIn s (digest_at o j) (get_or (set q i v) j None)
+    go j l (yes e) = rw e (rw (get_or-set_same q i v None b) x)
+    go j l (no n) = rw (get_or-set_other q i j v None n) (W.there j (omega arith))
 
-pub agrees_none : (s o p : List ℕ) → Agrees s o p p 0 0
+pub agrees_none : (s o : List ℕ) (p : Places) → Agrees s o p p 0 0
 agrees_none s o p =
     record {
       placed = record { size = refl; there = λ j l. absurd (omega arith); rest = λ j l. refl };
@@ -77,9 +76,9 @@ agrees_none s o p =
       counted = refl;
     }
 
-module _ {s o : List ℕ} {r : ℕ} (R : Ready s r) {p q : List ℕ} {i c : ℕ} (b : i < length q) (A : Agrees s o p q i c) where
+module _ {s o : List ℕ} {r : ℕ} (R : Ready s r) {p q : Places} {i c : ℕ} (b : i < length q) (A : Agrees s o p q i c) where
   -- the next operation stands at place k of s
-  pub agrees_has : (k : ℕ) → k < count_of s → op_of s k ≡ op_of o i → Agrees s o p (set q i k) (i + 1) c
+  pub agrees_has : (k : ℕ) → k < count_of s → op_of s k ≡ op_of o i → Agrees s o p (set q i (Some k)) (i + 1) c
   agrees_has k l e =
       record {
         placed = placed_more b A.placed (held l (ap (λ x. x.digest) e));
@@ -97,7 +96,7 @@ module _ {s o : List ℕ} {r : ℕ} (R : Ready s r) {p q : List ℕ} {i c : ℕ}
       alike j x u v f (no n) = A.alike j x (omega arith) v f
 
   -- s lacks the next operation
-  pub agrees_lacks : ¬ Held (ops_of s) (digest_at o i) → Agrees s o p (set q i 65535) (i + 1) (c + 1)
+  pub agrees_lacks : ¬ Held (ops_of s) (digest_at o i) → Agrees s o p (set q i None) (i + 1) (c + 1)
   agrees_lacks h =
       record {
         placed = placed_more b A.placed (lacks h);
@@ -111,11 +110,3 @@ module _ {s o : List ℕ} {r : ℕ} (R : Ready s r) {p q : List ℕ} {i c : ℕ}
       alike : (j x : ℕ) → j < i + 1 → x < count_of s → digest_at s x ≡ digest_at o j → Dec (j ≡ i) → op_of s x ≡ op_of o j
       alike j x u v f (yes z) = absurd (h (subst (Held (ops_of s)) (f ∙ ap (digest_at o) z) (held_at R x v)))
       alike j x u v f (no n) = A.alike j x (omega arith) v f
-
--- the answers of comparing all, taken apart
-module _ (s o p q : List ℕ) where
-  pub compares_lacks : (r : Compared) (c : ℕ) → Compares r s o p q → r ≡ Lacks c → Agrees s o p q (count_of o) c
-  compares_lacks r c x e = subst (λ y. Compares y s o p q) e x
-
-  pub compares_clash : (r : Compared) → Compares r s o p q → r ≡ Clashes → Clash (ops_of s) (ops_of o)
-  compares_clash r x e = let y : Compares Clashes s o p q = subst (λ y. Compares y s o p q) e x in y.0

@@ -5,10 +5,11 @@ use native.Mathlib.Omega.{arith}
 use native.Mathlib.Decide.{ℕ_discrete, dec_lt}
 use native.Mathlib.Nat.{add-zero}
 use mathlib.Core.Path.{◌≡◌, refl, sym, ◌∙◌, ap, subst}
-use mathlib.Core.Logic.{◌⊎◌, inl, inr, ⊎_elim}
+use mathlib.Core.Logic.{◌⊎◌, inl, inr}
 use mathlib.Core.List.{List, [], ◌∷◌, ◌++◌, append-nil, append_assoc}
 use lib.ListN.{length, get_or, set, length-set, length-append, get_or-append}
 use lib.Seq.{get_or-set_same, get_or-set_other, get_or-append_seam, ext_get_or}
+use Rattle.std.specs.Prelude.{Option, Some, None}
 use Rattle.rules.specs.Admission.{Admissible}
 use Rattle.rules.specs.Bytes.{row}
 use Rattle.rules.specs.Graph.{Op, Held}
@@ -23,9 +24,9 @@ use Rattle.store.specs.Layout.{count_of, digest_at, preds_at, pred_at, op_of, op
 use Rattle.store.specs.Sound.{Sound, admit, Admitted}
 use Rattle.store.proofs.Ops.{ops_length, ops_at, checked_proper, sound_checked}
 use Rattle.walk.specs.Marks.{Ready}
-use Rattle.walk.proofs.Painting.{large_ready, ready_few, ready_early, ready_count}
+use Rattle.walk.proofs.Painting.{large_ready, ready_few, ready_early}
 use Rattle.walk.proofs.Places.{ready_formed, held_at, one_place}
-use Rattle.merging.specs.Places.{PlaceIn, held, lacks, AllPlaced, Taken}
+use Rattle.merging.specs.Places.{Places, placed, PlaceIn, held, lacks, AllPlaced, Taken}
 
 -- a store that holds more has the old operations at their places
 module _ (s t : List ℕ) (more : List Op) (e : ops_of t ≡ ops_of s ++ more) where
@@ -39,7 +40,7 @@ module _ (s t : List ℕ) (more : List Op) (e : ops_of t ≡ ops_of s ++ more) w
       ∙ get_or-append (ops_of s) more no_op k (omega (arith, ops_length s))
       ∙ ops_at s k l
 
-pub taken_none : {s : List ℕ} (o p : List ℕ) → Sound limits s → Taken s o p s p 0
+pub taken_none : {s : List ℕ} (o : List ℕ) (p : Places) → Sound limits s → Taken s o p s p 0
 taken_none {s} o p S =
     record {
       sound = S;
@@ -51,9 +52,9 @@ taken_none {s} o p S =
       todo = λ j l. refl;
     }
 
-module _ {s o p t q : List ℕ} {r i : ℕ} (R : Ready o r) (l : i < count_of o) (T : Taken s o p t q i) where
+module _ {s o : List ℕ} {p : Places} {t : List ℕ} {q : Places} {r i : ℕ} (R : Ready o r) (l : i < count_of o) (T : Taken s o p t q i) where
   -- s holds the next operation at place v
-  pub taken_has : (v : ℕ) → get_or q i 0 ≡ v → v < count_of s → digest_at s v ≡ digest_at o i → Held (ops_of s) (digest_at o i) → Taken s o p t q (i + 1)
+  pub taken_has : (v : ℕ) → get_or q i None ≡ Some v → v < count_of s → digest_at s v ≡ digest_at o i → Held (ops_of s) (digest_at o i) → Taken s o p t q (i + 1)
   taken_has v e b d h =
       record {
         sound = T.sound;
@@ -65,8 +66,8 @@ module _ {s o p t q : List ℕ} {r i : ℕ} (R : Ready o r) (l : i < count_of o)
         todo = λ j x. T.todo j (omega arith);
       }
     where
-      go : (j : ℕ) → j < i + 1 → Dec (j ≡ i) → (get_or q j 0 < count_of t) × (digest_at t (get_or q j 0) ≡ digest_at o j)
-      go j x (yes z) = rw z (rw e (omega (arith, count_more s t T.more T.ops), ap (λ y. y.digest) (op_stays s t T.more T.ops v b) ∙ d))
+      go : (j : ℕ) → j < i + 1 → Dec (j ≡ i) → (get_or q j None ≡ Some (placed q j)) × (placed q j < count_of t) × (digest_at t (placed q j) ≡ digest_at o j)
+      go j x (yes z) = rw z (rw e (refl, omega (arith, count_more s t T.more T.ops), ap (λ y. y.digest) (op_stays s t T.more T.ops v b) ∙ d))
       go j x (no n) = T.done.each j (omega arith)
 
   module _ (h : ¬ Held (ops_of s) (digest_at o i)) where
@@ -89,20 +90,20 @@ module _ {s o p t q : List ℕ} {r i : ℕ} (R : Ready o r) (l : i < count_of o)
           known = λ x m.
               let k = in_row 0 (preds_at o i) (λ k. digest_at o (pred_at o i k)) x m in
               let y = T.done.each (pred_at o i k.0) (ready_early R i l k.0 k.1) in
-              subst (Held (ops_of t)) (y.1 ∙ k.2) (held_at (large_ready T.sound) (get_or q (pred_at o i k.0) 0) y.0);
+              subst (Held (ops_of t)) (y.2 ∙ k.2) (held_at (large_ready T.sound) (placed q (pred_at o i k.0)) y.1);
         }
 
     -- the next operation is appended at place n
-    pub taken_lacks : {u : List ℕ} → count_of t < 512 → i < length q → Admitted limits t (op_of o i) u → Taken s o p u (set q i (count_of t)) (i + 1)
+    pub taken_lacks : {u : List ℕ} → count_of t < 512 → i < length q → Admitted limits t (op_of o i) u → Taken s o p u (set q i (Some (count_of t))) (i + 1)
     taken_lacks {u} room b A =
         record {
           sound = admit T.sound admissible (omega (arith, row_length (preds_at o i) (λ k. digest_at o (pred_at o i k)), ready_few R i l)) (omega (arith, ops_length t)) A;
           more = T.more ++ (op_of o i ∷ []);
           missing = rw (row_more i (op_of o)) (missing_lacks (op_of o i) T.missing h);
           ops = A.ops ∙ ap (λ G. G ++ (op_of o i ∷ [])) T.ops ∙ append_assoc (ops_of s) T.more (op_of o i ∷ []);
-          size = length-set q i (count_of t) ∙ T.size;
+          size = length-set q i (Some (count_of t)) ∙ T.size;
           done = record { each = λ j x. go j x (ℕ_discrete j i) };
-          todo = λ j x. get_or-set_other q i j (count_of t) 0 (λ e. omega arith) ∙ T.todo j (omega arith);
+          todo = λ j x. get_or-set_other q i j (Some (count_of t)) None (λ e. omega arith) ∙ T.todo j (omega arith);
         }
       where
         one : op_of u (count_of t) ≡ op_of o i
@@ -112,11 +113,11 @@ module _ {s o p t q : List ℕ} {r i : ℕ} (R : Ready o r) (l : i < count_of o)
             ∙ ap (op_at (ops_of t ++ (op_of o i ∷ []))) (sym (ops_length t))
             ∙ get_or-append_seam (ops_of t) (op_of o i) [] no_op
 
-        go : (j : ℕ) → j < i + 1 → Dec (j ≡ i) → (get_or (set q i (count_of t)) j 0 < count_of u) × (digest_at u (get_or (set q i (count_of t)) j 0) ≡ digest_at o j)
-        go j x (yes z) = rw z (rw (get_or-set_same q i (count_of t) 0 b) (omega (arith, count_more t u (op_of o i ∷ []) A.ops), ap (λ y. y.digest) one))
+        go : (j : ℕ) → j < i + 1 → Dec (j ≡ i) → (get_or (set q i (Some (count_of t))) j None ≡ Some (placed (set q i (Some (count_of t))) j)) × (placed (set q i (Some (count_of t))) j < count_of u) × (digest_at u (placed (set q i (Some (count_of t))) j) ≡ digest_at o j)
+        go j x (yes z) = rw z (rw (get_or-set_same q i (Some (count_of t)) None b) (refl, omega (arith, count_more t u (op_of o i ∷ []) A.ops), ap (λ y. y.digest) one))
         go j x (no n) =
             let y = T.done.each j (omega arith) in
-            rw (get_or-set_other q i j (count_of t) 0 n) (omega (arith, y.0, count_more t u (op_of o i ∷ []) A.ops), ap (λ y. y.digest) (op_stays t u (op_of o i ∷ []) A.ops (get_or q j 0) y.0) ∙ y.1)
+            rw (get_or-set_other q i j (Some (count_of t)) None n) (y.0, omega (arith, y.1, count_more t u (op_of o i ∷ []) A.ops), ap (λ y. y.digest) (op_stays t u (op_of o i ∷ []) A.ops (placed q j) y.1) ∙ y.2)
 
 -- the operations of a store are those of its records
 pub ops_row : (o : List ℕ) → row (count_of o) (op_of o) ≡ ops_of o
@@ -138,7 +139,7 @@ missing_grows {G} f a (suc d) {A} {B} m n =
     omega (arith, missing_grows f a d m u.missing, missing_last (f (a + d)) (rw (e, row_more (a + d) f) at n) u.more u.missing)
 
 -- there is room for the next one
-module _ {s o p t q : List ℕ} {i : ℕ} (l : i < count_of o) (T : Taken s o p t q i) where
+module _ {s o : List ℕ} {p : Places} {t : List ℕ} {q : Places} {i : ℕ} (l : i < count_of o) (T : Taken s o p t q i) where
   pub taken_room : ¬ Overfull limits (ops_of s) (ops_of o) → ¬ Held (ops_of s) (digest_at o i) → count_of t < 512
   taken_room n h =
       let u = union_is (ops_of s) (ops_of o) in
@@ -151,27 +152,29 @@ module _ {s o p t q : List ℕ} {i : ℕ} (l : i < count_of o) (T : Taken s o p 
       go (yes x) y = absurd (n (record { union = (union_is (ops_of s) (ops_of o)).0; is = (union_is (ops_of s) (ops_of o)).1; over = x }))
       go (no x) y = omega arith
 
--- the place of an operation that s holds, or that s lacks it
-pub placed_cases : {s : List ℕ} {d v : ℕ} → count_of s ≤ 512 → PlaceIn s d v → ((v ≡ 65535) × (¬ Held (ops_of s) d)) ⊎ ((v < count_of s) × (digest_at s v ≡ d) × (¬ (v ≡ 65535)))
-placed_cases f (held b e) = inr (b, e, λ z. omega arith)
-placed_cases f (lacks n) = inl (refl, n)
-
 -- the next operation, whose place is known from comparing
-module _ {s o p t q : List ℕ} {i : ℕ} (S : Sound limits s × Ready o (length p)) (P : AllPlaced s o p) (l : i < count_of o) (T : Taken s o p t q i) where
-  next_placed : ((get_or q i 0 ≡ 65535) × (¬ Held (ops_of s) (digest_at o i))) ⊎ ((get_or q i 0 < count_of s) × (digest_at s (get_or q i 0) ≡ digest_at o i) × (¬ (get_or q i 0 ≡ 65535)))
-  next_placed = placed_cases (ready_count (large_ready S.0)) (rw (T.todo i (omega arith)) (P.each i l))
+module _ {s o : List ℕ} {p : Places} {t : List ℕ} {q : Places} {i : ℕ} (S : Sound limits s) (O : Ready o (length p)) (P : AllPlaced s o p) (l : i < count_of o) (T : Taken s o p t q i) where
+  next_place : PlaceIn s (digest_at o i) (get_or q i None)
+  next_place = rw (T.todo i (omega arith)) (P.each i l)
 
   -- s holds it
-  pub next_has : ¬ (get_or q i 0 ≡ 65535) → Taken s o p t q (i + 1)
-  next_has n = ⊎_elim (λ x. absurd (n x.0)) (λ x. taken_has S.1 l T (get_or q i 0) refl x.0 x.1 (subst (Held (ops_of s)) x.1 (held_at (large_ready S.0) (get_or q i 0) x.0))) next_placed
+  pub next_has : ¬ (get_or q i None ≡ None) → Taken s o p t q (i + 1)
+  next_has n = go (get_or q i None) refl next_place
+    where
+      go : (v : Option ℕ) → get_or q i None ≡ v → PlaceIn s (digest_at o i) v → Taken s o p t q (i + 1)
+      go (Some v) e (held b d) = taken_has O l T v e b d (subst (Held (ops_of s)) d (held_at (large_ready S) v b))
+      go None e (lacks h) = absurd (n e)
 
   -- s lacks it: there is room, and it is taken over
-  module _ (z : get_or q i 0 ≡ 65535) (n : ¬ Overfull limits (ops_of s) (ops_of o)) where
+  module _ (z : get_or q i None ≡ None) (n : ¬ Overfull limits (ops_of s) (ops_of o)) where
     unheld : ¬ Held (ops_of s) (digest_at o i)
-    unheld = ⊎_elim (λ x. x.1) (λ x. absurd (x.2 z)) next_placed
+    unheld = go (rw z at next_place)
+      where
+        go : PlaceIn s (digest_at o i) None → ¬ Held (ops_of s) (digest_at o i)
+        go (lacks h) = h
 
     pub next_room : count_of t < 512
     next_room = taken_room l T n unheld
 
-    pub next_lacks : {u : List ℕ} → Admitted limits t (op_of o i) u → Taken s o p u (set q i (count_of t)) (i + 1)
-    next_lacks A = taken_lacks S.1 l T unheld next_room (omega (arith, l, T.size, S.1.enough)) A
+    pub next_lacks : {u : List ℕ} → Admitted limits t (op_of o i) u → Taken s o p u (set q i (Some (count_of t))) (i + 1)
+    next_lacks A = taken_lacks O l T unheld next_room (omega (arith, l, T.size, O.enough)) A

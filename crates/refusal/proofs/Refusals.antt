@@ -1,27 +1,61 @@
--- What a test that refuses nothing gives, and the refusals of a digest that must be held.
+-- What a test answers, what one that refuses nothing gives, and the refusals of a digest that must be held.
 -- Assumes nothing.
 use Prim.Native.Nat.{ℕ, ◌≤◌}
 use native.Mathlib.Omega.{arith}
 use native.Mathlib.Decide.{ℕ_discrete}
-use mathlib.Core.Path.{◌≡◌, subst}
-use mathlib.Core.Logic.{inl, inr}
+use mathlib.Core.Path.{◌≡◌, refl, ◌∙◌, ap}
+use mathlib.Core.Logic.{◌⊎◌, inl, inr, ⊎_elim}
 use mathlib.Core.List.{List, [], ◌∷◌}
 use lib.ListN.{length}
+use Rattle.std.specs.Prelude.{Result, Err, IsErrAnd}
+use Rattle.std.proofs.lemmas.Result.{err_from_is_err_and}
+use Rattle.rules.specs.Answers.{Listed, Valued}
 use Rattle.rules.specs.Bytes.{digest_of}
 use Rattle.rules.specs.First.{First}
 use Rattle.rules.specs.Graph.{Held}
-use Rattle.rules.specs.Small.{digest_refusals, held_refusals, member_refusals}
+use Rattle.rules.specs.Small.{store_refusals, digest_refusals, held_refusals, member_refusals}
 use Rattle.rules.specs.Table.{OneDigest}
-use Rattle.rules.proofs.Answers.{first_none}
-use Rattle.rules.proofs.First.{None, Apart, first_done, first_here, first_next, first_past, first_stays}
+use Rattle.rules.specs.declared.Refusal.{Refusal}
+use Rattle.rules.specs.Numbers.{code, number_of, value_of}
+use Rattle.rules.proofs.Answers.{first_none, listed_refused, valued_refused}
+use Rattle.rules.proofs.Numbers.{code_some}
+use Rattle.rules.proofs.First.{None, first_done, first_here, first_next, first_moves, first_past, first_stays}
 use Rattle.store.specs.Layout.{ops_of}
 use Rattle.refusal.specs.Damage.{Damaged, Tested}
 
-pub tested_done : {rs : List (ℕ × Type 0)} {good : Type 0} {r : ℕ} → Tested rs good r → r ≡ 0 → First rs 0
-tested_done {rs} t e = subst (First rs) e t.number
+-- a refusal that holds is answered
+pub tested_refused : {A : Type 0} {rs : List (ℕ × Type 0)} {P : A → Type 0} {e : Refusal} → First rs (code e) → Tested rs P (Err e)
+tested_refused f = record { number = f; passed = tt }
 
-pub tested_none : {rs : List (ℕ × Type 0)} {good : Type 0} {r : ℕ} → Apart 0 rs → r ≡ 0 → Tested rs good r → None rs
-tested_none {rs} a e t = first_none rs 0 a (tested_done t e)
+-- a refusal that doesn't hold stands before those that are tested
+pub tested_next : {A : Type 0} {rs : List (ℕ × Type 0)} {P : A → Type 0} {m : ℕ} {C : Type 0} {r : Result A Refusal} → ¬ C → Tested rs P r → Tested ((m, C) ∷ rs) P r
+tested_next n t = record { number = first_next _ _ _ _ n t.number; passed = t.passed }
+
+-- what a `?` returns where it is refused: the refusal itself
+pub handed_on : {A : Type 0} {e : Refusal} (r : Result A Refusal) → IsErrAnd r (λ y. y ≡ e) → r ≡ Err e
+handed_on r h = let p = err_from_is_err_and r h in p.1 ∙ ap Err p.2
+
+-- so it is answered
+pub tested_on : {A : Type 0} {rs : List (ℕ × Type 0)} {P : A → Type 0} {r : Result A Refusal} (e : Refusal) → IsErrAnd r (λ y. y ≡ e) → First rs (code e) → Tested rs P r
+tested_on {r = r} e h f = rw (handed_on r h) (tested_refused f)
+
+-- what is answered where a test refuses
+module _ {rs : List (ℕ × Type 0)} where
+  pub refuses_list : {P : ℕ → Type 0} {o : List ℕ} (e : Refusal) (r : Result ℕ Refusal) → IsErrAnd r (λ y. y ≡ e) → First rs (code e) → Listed rs P o o (number_of r) (value_of r)
+  refuses_list e r h f = rw (handed_on r h) (listed_refused (code_some e) f)
+
+  pub refuses_value : {P : ℕ → Type 0} (e : Refusal) (r : Result ℕ Refusal) → IsErrAnd r (λ y. y ≡ e) → First rs (code e) → Valued rs P (number_of r) (value_of r)
+  refuses_value e r h f = rw (handed_on r h) (valued_refused (code_some e) f)
+
+-- the refusals of a digest and two stores, where the first store is refused, and where it isn't
+pub two_first : (A B : Type 0) (d : List ℕ) (e : Refusal) → First (digest_refusals A d) (code e) → First (digest_refusals (A ⊎ B) d) (code e)
+unfolding First
+two_first A B d e (inl p) = inl p
+two_first A B d e (inr (n, inl q)) = inr (n, inl (inl q.0, q.1))
+two_first A B d e (inr (n, inr q)) = absurd (code_some e q.1)
+
+pub two_second : (A B : Type 0) (d : List ℕ) (n : ℕ) → First (digest_refusals A d) 0 → First (store_refusals B) n → First (digest_refusals (A ⊎ B) d) n
+two_second A B d n f g = let m = first_none _ 0 (omega arith) f in first_next _ _ _ _ m.0 (first_moves _ _ _ (refl, (inr, ⊎_elim (λ x. absurd (m.1.0 x)) (λ x. x)), λ x. tt) g)
 
 -- a digest or a member that isn't refused has 32 bytes
 whole : (d : List ℕ) → ¬ (¬ OneDigest d) → OneDigest d
@@ -31,22 +65,22 @@ whole d n = go (ℕ_discrete (length d) 32)
     go (yes e) = e
     go (no m) = absurd (n m)
 
-pub digest_whole : (damaged : Type 0) (d : List ℕ) → None (digest_refusals damaged d) → OneDigest d
-digest_whole damaged d n = whole d n.0
-
 -- a digest that a test doesn't refuse has its 32 bytes
-pub digest_room : {damaged good : Type 0} (d : List ℕ) {r : ℕ} → Tested (digest_refusals damaged d) good r → r ≡ 0 → 32 ≤ length d
-digest_room {damaged} d t e = omega (arith, digest_whole damaged d (tested_none (omega arith) e t))
+pub digest_room : (damaged : Type 0) (d : List ℕ) → First (digest_refusals damaged d) 0 → 32 ≤ length d
+digest_room damaged d f = omega (arith, whole d (first_none _ 0 (omega arith) f).0)
 
-pub member_whole : (damaged : Type 0) (m d : List ℕ) → None (member_refusals damaged m d) → OneDigest m × OneDigest d
-member_whole damaged m d n = (whole m (λ x. n.0 (inl x)), whole d (λ x. n.0 (inr x)))
+pub member_whole : (damaged : Type 0) (m d : List ℕ) → First (member_refusals damaged m d) 0 → OneDigest m × OneDigest d
+member_whole damaged m d f = let n = first_none _ 0 (omega arith) f in (whole m (λ x. n.0 (inl x)), whole d (λ x. n.0 (inr x)))
 
 -- a digest that must be held is refused as any digest is, and then where it isn't held
 module _ (s d : List ℕ) where
-  pub held_refused : {n : ℕ} → ¬ (n ≡ 0) → First (digest_refusals (Damaged s) d) n → First (held_refusals (Damaged s) (ops_of s) d) n
-  held_refused {n} z f = first_stays (digest_refusals (Damaged s) d) ((7, ¬ Held (ops_of s) (digest_of d)) ∷ []) n z f
+  pub held_refused : (e : Refusal) → First (digest_refusals (Damaged s) d) (code e) → First (held_refusals (Damaged s) (ops_of s) d) (code e)
+  held_refused e f = first_stays (digest_refusals (Damaged s) d) ((7, ¬ Held (ops_of s) (digest_of d)) ∷ []) (code e) (code_some e) f
 
-  module _ (none : None (digest_refusals (Damaged s) d)) where
+  module _ (f : First (digest_refusals (Damaged s) d) 0) where
+    none : None (digest_refusals (Damaged s) d)
+    none = first_none _ 0 (omega arith) f
+
     pub held_lacking : ¬ Held (ops_of s) (digest_of d) → First (held_refusals (Damaged s) (ops_of s) d) 7
     held_lacking n = first_past (digest_refusals (Damaged s) d) ((7, ¬ Held (ops_of s) (digest_of d)) ∷ []) 7 none (first_here 7 (¬ Held (ops_of s) (digest_of d)) [] n)
 

@@ -1,15 +1,17 @@
 -- The number of k bytes is injective and compares as the bytes do, the first that differs deciding. Rows by places.
 -- Assumes nothing.
-use Prim.Native.Nat.{ℕ, zero, suc, ◌+◌, ◌*◌, ◌^◌, ◌≤◌, ◌<◌}
+use Prim.Native.Nat.{ℕ, zero, suc, ◌+◌, ◌-◌, ◌*◌, ◌^◌, ◌≤◌, ◌<◌}
 use native.Mathlib.Omega.{arith}
 use native.Mathlib.Decide.{ℕ_discrete, dec_lt}
 use native.Mathlib.Numerals.{add-one}
 use native.Mathlib.Nat.{pow-suc, add-zero}
 use mathlib.Core.Path.{◌≡◌, refl, sym, ◌∙◌, ap, subst}
 use mathlib.Core.List.{List, [], ◌∷◌, ◌++◌}
-use lib.ListN.{length, get_or, length-append, get_or-append}
+use lib.ListN.{length, get_or, take, drop, length-append, get_or-append}
+use Rattle.std.proofs.lemmas.List.{get_or-take, get_or-drop, get_or_past, length-take, take_rest}
 use lib.Seq.{get_or_at}
-use Rattle.rules.specs.Bytes.{Bytes, number_at, row}
+use Rattle.std.proofs.Common.{Fits, w8}
+use Rattle.rules.specs.Bytes.{Bytes, number_at, digest_of, row}
 use Rattle.rules.specs.Lists.{◌∈◌}
 use Rattle.rules.proofs.Lists.{at_in, in_at}
 
@@ -117,3 +119,41 @@ number_append s p k (suc j) =
     let e : k + suc j ≡ suc (k + j) = omega arith in
     let f : p + (k + j) ≡ p + k + j = omega arith in
     rw (e, pow-suc) (omega (arith, number_append s p k j, ap (λ x. get_or s x 0) f))
+
+-- the first digest of a part of a list is the one that stands there
+pub digest_take : (s : List ℕ) (m : ℕ) → 32 ≤ m → digest_of (take m s) ≡ digest_of s
+digest_take s m h = number_same (take m s) s 0 0 32 (λ j l. get_or-take m s (0 + j) 0 (omega arith))
+
+pub digest_drop : (s : List ℕ) (a : ℕ) → digest_of (drop a s) ≡ number_at s a 32
+digest_drop s a = number_same (drop a s) s 0 a 32 (λ j l. get_or-drop a s (0 + j) 0 ∙ ap (λ x. get_or s x 0) (omega arith))
+
+pub digest_rest : (s : List ℕ) (a : ℕ) → digest_of (take (length s - a) (drop a s)) ≡ number_at s a 32
+digest_rest s a = rw (take_rest s a) (digest_drop s a)
+
+pub digest_part : (s : List ℕ) (a m : ℕ) → 32 ≤ m → digest_of (take m (drop a s)) ≡ number_at s a 32
+digest_part s a m h = digest_take (drop a s) m h ∙ digest_drop s a
+
+-- a byte and then n more
+pub number_front : (x : ℕ) (s : List ℕ) (n : ℕ) → number_at (x ∷ s) 0 (1 + n) ≡ x * 256 ^ n + number_at s 0 n
+unfolding number_at
+number_front x s n =
+    let e : number_at (x ∷ s) 0 1 ≡ x = omega arith in
+    let f : number_at (x ∷ s) 1 n ≡ number_at s 0 n = number_same (x ∷ s) s 1 0 n (λ j l. next j) in
+    number_append (x ∷ s) 0 1 n ∙ rw (e, f) refl
+  where
+    next : (j : ℕ) → get_or (x ∷ s) (1 + j) 0 ≡ get_or s (0 + j) 0
+    next j = let e : 1 + j ≡ suc j = omega arith in let f : 0 + j ≡ j = omega arith in rw (e, f) refl
+
+-- numbers of eight bits are bytes
+pub fit_bytes : {s : List ℕ} → ((i : ℕ) → Fits w8 (get_or s i 0)) → Bytes s
+fit_bytes h = record { small = λ i. omega (arith, h i) }
+
+-- the numbers of a part are as small as those of the list
+pub small_take : (s : List ℕ) (m : ℕ) → ((i : ℕ) → get_or s i 0 < 256) → (i : ℕ) → get_or (take m s) i 0 < 256
+small_take s m h i = go (dec_lt i m)
+  where
+    go : Dec (i < m) → get_or (take m s) i 0 < 256
+    go (yes l) = rw (get_or-take m s i 0 l) (h i)
+    go (no n) =
+        let e : get_or (take m s) i 0 ≡ 0 = get_or_past (take m s) i 0 (omega (arith, length-take m s)) in
+        rw e (omega arith)

@@ -11,6 +11,7 @@ pub mod Layers
 pub mod Past
 pub mod Batches
 pub mod Answers
+pub mod Ranges
 pub mod Calls
 pub mod Admission
 pub mod Merge
@@ -22,3 +23,5 @@ pub mod Log
 pub mod Listing
 pub mod Starred
 pub mod Printed
+pub mod Chains
+pub mod Numbers

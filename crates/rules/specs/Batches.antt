@@ -1,9 +1,9 @@
 -- Batches of a head list: complete chains, boundaries, cuts and marks.
 -- Assumes nothing.
-use Rattle.std.specs.Prelude.{ℕ, zero, suc, ◌+◌, ◌-◌, ◌*◌, ◌≤◌, ◌<◌, ◌≡◌, ◌⊎◌, List, [], ◌∷◌, ◌++◌, length, get_or}
-use Rattle.rules.specs.Lists.{◌∈◌, Ordered, SetOf}
+use Rattle.std.specs.Prelude.{ℕ, ◌+◌, ◌-◌, ◌*◌, ◌<◌, ◌≡◌, ◌⊎◌, List, [], ◌∷◌, ◌++◌, length, get_or}
+use Rattle.rules.specs.Lists.{◌∈◌, Ordered}
 use Rattle.rules.specs.Bytes.{digests_of}
-use Rattle.rules.specs.Graph.{Op, Held, Unheld, Child, Head, Depth, InPast}
+use Rattle.rules.specs.Graph.{Op, Held, Unheld, Child, Depth, InPast}
 use Rattle.rules.specs.First.{First}
 use Rattle.rules.specs.Answers.{Put, PutMarks}
 use Rattle.rules.specs.Table.{WholeDigests, Over}

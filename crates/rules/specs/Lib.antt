@@ -15,3 +15,4 @@ pub mod Small
 pub mod Calls
 pub mod Log
 pub mod Listing
+pub mod Numbers

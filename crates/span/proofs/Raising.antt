@@ -1,21 +1,15 @@
 -- Raising the numbers of listed places, turn by turn, and that it leaves one outcome.
 -- Assumes nothing.
-use Prim.Native.Nat.{ℕ, ◌+◌, ◌≤◌, ◌<◌}
+use Prim.Native.Nat.{ℕ, max, ◌+◌, ◌≤◌, ◌<◌}
 use native.Mathlib.Omega.{arith}
-use native.Mathlib.Decide.{ℕ_discrete}
+use native.Mathlib.Decide.{ℕ_discrete, dec_lt}
 use mathlib.Core.Path.{◌≡◌, refl, sym, ◌∙◌, ap}
 use mathlib.Core.Logic.{◌⊎◌, inl, inr}
 use mathlib.Core.List.{List}
 use lib.ListN.{length, get_or, set, length-set}
 use lib.Seq.{get_or-set_same, get_or-set_other, ext_get_or}
-use Rattle.store.specs.Layout.{count_of}
-use Rattle.walk.specs.Marks.{Ready}
 use Rattle.walk.specs.Passes.{OneOf, Lists}
 use Rattle.span.specs.Far.{Lift, lifted, kept, Lifted, Raised}
-
--- a ready store is ready for any array with room for its operations
-pub ready_for : {s : List ℕ} {a b : ℕ} → Ready s a → count_of s ≤ b → Ready s b
-ready_for R l = record { limits = R.limits; roomy = R.roomy; sound = R.sound; enough = l }
 
 lift_least : {P : Type 0} {v a b : ℕ} → Lift P v a b → a ≤ b
 lift_least (lifted p l e) = omega arith
@@ -24,9 +18,6 @@ lift_least (kept h e) = omega arith
 lift_above : {P : Type 0} {v a b : ℕ} → Lift P v a b → P → v ≤ b
 lift_above (lifted p l e) q = omega arith
 lift_above (kept h e) q = omega (arith, h q)
-
-pub lifted_none : (g : ℕ → ℕ) (v : ℕ) (f : List ℕ) → Lifted (OneOf g 0) v f f
-lifted_none g v f = record { size = refl; each = λ j. kept (λ a. absurd (omega (arith, a.below))) refl }
 
 -- one place more of those that g names
 module _ (g : ℕ → ℕ) (c : ℕ) {v : ℕ} {f f' : List ℕ} (w : Lifted (OneOf g c) v f f') where
@@ -40,28 +31,25 @@ module _ (g : ℕ → ℕ) (c : ℕ) {v : ℕ} {f f' : List ℕ} (w : Lifted (On
       go (yes e) = inr (sym a.there ∙ ap g e)
       go (no n) = inl (record { nth = a.nth; below = omega (arith, a.below, n); there = a.there })
 
-  -- its number is less and becomes v
-  pub lifted_more : g c < length f' → get_or f' (g c) 0 < v → Lifted (OneOf g (c + 1)) v f (set f' (g c) v)
-  lifted_more h l = record { size = length-set f' (g c) v ∙ w.size; each = λ j. go j (ℕ_discrete j (g c)) }
+  -- its number becomes v, if it is less
+  pub lifted_max : g c < length f' → Lifted (OneOf g (c + 1)) v f (set f' (g c) (max (get_or f' (g c) 0) v))
+  lifted_max h = record { size = length-set f' (g c) most ∙ w.size; each = λ j. go j (ℕ_discrete j (g c)) }
     where
+      most : ℕ
+      most = max (get_or f' (g c) 0) v
+
+      here : Dec (get_or f (g c) 0 < v) → Lift (OneOf g c (g c)) v (get_or f (g c) 0) (get_or f' (g c) 0) → Lift (OneOf g (c + 1) (g c)) v (get_or f (g c) 0) most
+      here d (lifted a x e) = lifted (wider a) x (omega arith)
+      here (yes l) (kept x e) = lifted (record { nth = c; below = omega arith; there = refl }) l (omega arith)
+      here (no n) (kept x e) = kept (λ a. omega arith) (omega arith)
+
       other : (j : ℕ) → ¬ (j ≡ g c) → {b : ℕ} → b ≡ get_or f' j 0 → Lift (OneOf g c j) v (get_or f j 0) (get_or f' j 0) → Lift (OneOf g (c + 1) j) v (get_or f j 0) b
       other j n q (lifted a x e) = lifted (wider a) x (q ∙ e)
       other j n q (kept x e) = kept (λ a. elim (split a) [ inl b ↦ x b | inr b ↦ absurd (n b) ]) (q ∙ e)
 
-      go : (j : ℕ) → Dec (j ≡ g c) → Lift (OneOf g (c + 1) j) v (get_or f j 0) (get_or (set f' (g c) v) j 0)
-      go j (yes e) = lifted (record { nth = c; below = omega arith; there = sym e }) (rw e (omega (arith, lift_least (w.each (g c))))) (rw e (get_or-set_same f' (g c) v 0 h))
-      go j (no n) = other j n (get_or-set_other f' (g c) j v 0 n) (w.each j)
-
-  -- its number is no less and stays
-  pub lifted_keep : v ≤ get_or f' (g c) 0 → Lifted (OneOf g (c + 1)) v f f'
-  lifted_keep l = record { size = w.size; each = λ j. go j (w.each j) }
-    where
-      go : (j : ℕ) → Lift (OneOf g c j) v (get_or f j 0) (get_or f' j 0) → Lift (OneOf g (c + 1) j) v (get_or f j 0) (get_or f' j 0)
-      go j (lifted a x e) = lifted (wider a) x e
-      go j (kept x e) = kept (λ a. elim (split a) [ inl b ↦ x b | inr b ↦ omega (arith, e, rw (sym b) at l) ]) e
-
-pub raised_none : (s m r f : List ℕ) → Raised s m r 0 f f
-raised_none s m r f = record { size = refl; least = λ j. omega arith; above = λ i j l e x. absurd (omega arith); reached = λ j. inl refl }
+      go : (j : ℕ) → Dec (j ≡ g c) → Lift (OneOf g (c + 1) j) v (get_or f j 0) (get_or (set f' (g c) most) j 0)
+      go j (yes e) = rw e (rw (get_or-set_same f' (g c) most 0 h) (here (dec_lt (get_or f (g c) 0) v) (w.each (g c))))
+      go j (no n) = other j n (get_or-set_other f' (g c) j most 0 n) (w.each j)
 
 module _ {s m r f f' : List ℕ} {n : ℕ} (W : Raised s m r n f f') where
   -- record n is marked, and what it lists is raised

@@ -14,7 +14,9 @@ use Rattle.rules.specs.Table.{Limits}
 use Rattle.rules.proofs.Bytes.{number_same, row_length, row_at, row_same, row_in, in_row}
 use Rattle.rules.proofs.Formed.{no_op}
 use Rattle.rules.proofs.Heads.{op_same}
+use Rattle.store.specs.Capacities.{limits_of}
 use Rattle.store.specs.Checked.{Checked}
+use Rattle.store.specs.declared.capacity.Capacity.{Capacity}
 use Rattle.store.specs.Layout.{count_of, digest_at, member_at, kind_at, preds_at, pred_at, op_of, ops_of}
 use Rattle.store.specs.Sound.{Roomy, Slots, Laid, Sound, fresh, admit}
 use Rattle.store.proofs.Ops.{checked_proper, sound_checked}
@@ -212,3 +214,7 @@ module _ {L : Limits} {s : List ℕ} (R : Roomy L) (C : Checked L s) where
 
 pub sound_iff : {L : Limits} {s : List ℕ} → Roomy L → Sound L s ↔ Checked L s
 sound_iff R = (sound_checked, checked_sound R)
+
+-- the limits of a capacity
+pub capacity_roomy : (c : Capacity) → Roomy (limits_of c)
+capacity_roomy c = record { operations = c.roomy.0; predecessors = c.roomy.1 }

@@ -4,3 +4,4 @@ pub mod Unique
 pub mod Tests
 pub mod Writing
 pub mod Slots
+pub mod Parts

@@ -4,3 +4,5 @@ pub mod Checked
 pub mod Answers
 pub mod Writes
 pub mod Slots
+pub mod Capacities
+pub mod Graphs

@@ -1,6 +1,6 @@
 -- Painting marks: what several turns of it leave.
 -- Assumes nothing.
-use Prim.Native.Nat.{ℕ, ◌+◌, ◌*◌, ◌≤◌, ◌<◌}
+use Prim.Native.Nat.{ℕ, ◌≤◌, ◌<◌}
 use native.Mathlib.Omega.{arith}
 use native.Mathlib.Decide.{ℕ_discrete}
 use mathlib.Core.Path.{◌≡◌, refl, ◌∙◌}
@@ -9,11 +9,14 @@ use mathlib.Core.List.{List}
 use lib.ListN.{length, get_or, set, length-set}
 use lib.Seq.{get_or-set_same, get_or-set_other}
 use Rattle.store.specs.Layout.{count_of, preds_at, pred_at}
-use Rattle.rules.specs.Table.{Limits, limits}
-use Rattle.store.specs.Sound.{Roomy, Sound, Laid}
+use Rattle.rules.specs.Table.{limits}
+use Rattle.store.specs.Sound.{Sound, Laid}
 use Rattle.rules.specs.Batches.{Mark}
+use Rattle.store.specs.Capacities.{limits_of}
+use Rattle.store.specs.declared.graph.Graph.{Graph}
+use Rattle.store.proofs.Cut.{checked_sound, capacity_roomy}
 use Rattle.store.proofs.Ops.{sound_laid}
-use Rattle.walk.specs.Marks.{Ready, Paint, hit, miss, Painted, Front}
+use Rattle.walk.specs.Marks.{Ready, Paint, hit, miss, Painted}
 
 -- the same places, said otherwise
 pub paint_as : {P Q : Type 0} {v a b : ℕ} → (P → Q) → (Q → P) → Paint P v a b → Paint Q v a b
@@ -45,33 +48,21 @@ painted_one m p v h = record { size = length-set m p v; each = λ j. go j (ℕ_d
     go j (yes e) = hit e (rw e (get_or-set_same m p v 0 h))
     go j (no n) = miss n (get_or-set_other m p j v 0 n)
 
--- a sound store is ready for as many marks as it may hold operations
-pub sound_ready : {L : Limits} {s : List ℕ} → Roomy L → Sound L s → Ready s L.operations
-sound_ready {L} r S = record { limits = L; roomy = r; sound = S; enough = (sound_laid S).frame.few }
+-- a graph is ready where there is room for a mark of each of its operations, and so where there is room for as many as any store holds
+pub graph_ready : (g : Graph) {n : ℕ} → count_of g.bytes.now ≤ n → Ready g.bytes.now n
+graph_ready g h = let R = capacity_roomy g.capacity in record { limits = limits_of g.capacity; roomy = R; sound = checked_sound R g.checked; enough = h }
 
+pub graph_large : (g : Graph) → Ready g.bytes.now 512
+graph_large g = graph_ready g (omega (arith, g.checked.frame.few, g.capacity.roomy.0))
+
+-- a sound store is ready for as many marks as it may hold operations
 pub large_ready : {s : List ℕ} → Sound limits s → Ready s 512
-large_ready S = sound_ready (record { operations = omega arith; predecessors = omega arith }) S
+large_ready S = record { limits = limits; roomy = record { operations = omega arith; predecessors = omega arith }; sound = S; enough = (sound_laid S).frame.few }
 
 -- what a ready store has
 module _ {s : List ℕ} {r : ℕ} (R : Ready s r) where
   pub ready_laid : Laid R.limits s
   ready_laid = sound_laid R.sound
-
-  -- without room for marks
-  pub ready_bare : Ready s (count_of s)
-  ready_bare = record { limits = R.limits; roomy = R.roomy; sound = R.sound; enough = omega arith }
-
-  pub ready_size : (i : ℕ) → i < count_of s → 162 + 98 * i ≤ length s
-  ready_size i h = omega (arith, ready_laid.frame.size, ready_laid.frame.few)
-
-  pub ready_room : 64 + 98 * count_of s ≤ length s
-  ready_room = omega (arith, ready_laid.frame.size, ready_laid.frame.few)
-
-  pub ready_head : 64 ≤ length s
-  ready_head = omega (arith, ready_laid.frame.size)
-
-  pub ready_count : count_of s ≤ 512
-  ready_count = omega (arith, ready_laid.frame.few, R.roomy.operations)
 
   pub ready_few : (i : ℕ) → i < count_of s → preds_at s i ≤ 16
   ready_few i h = omega (arith, (ready_laid.slots i h).few, R.roomy.predecessors)
@@ -84,34 +75,3 @@ pub record Marking (P : ℕ → Type 0) (i : ℕ) (m m' : List ℕ) : Type 0 whe
   pub size : length m' ≡ length m
   pub each : (j : ℕ) → j < i → Mark (P j) (get_or m' j 0)
   pub rest : (j : ℕ) → i ≤ j → get_or m' j 0 ≡ get_or m j 0
-
-pub marking_none : (P : ℕ → Type 0) (m : List ℕ) → Marking P 0 m m
-marking_none P m = record { size = refl; each = λ j h. absurd (omega arith); rest = λ j h. refl }
-
-pub marking_more : {P : ℕ → Type 0} {i v : ℕ} {m m' : List ℕ} → i < length m' → Mark (P i) v → Marking P i m m' → Marking P (i + 1) m (set m' i v)
-marking_more {P} {i} {v} {m} {m'} h x w =
-    record {
-      size = length-set m' i v ∙ w.size;
-      each = λ j l. go j l (ℕ_discrete j i);
-      rest = λ j l. get_or-set_other m' i j v 0 (λ e. omega arith) ∙ w.rest j (omega arith);
-    }
-  where
-    go : (j : ℕ) → j < i + 1 → Dec (j ≡ i) → Mark (P j) (get_or (set m' i v) j 0)
-    go j l (yes e) = rw e (rw (get_or-set_same m' i v 0 h) x)
-    go j l (no n) = rw (get_or-set_other m' i j v 0 n) (w.each j (omega arith))
-
--- a front that grows by one
-pub front_none : (f : ℕ → ℕ) (h : List ℕ) → Front f h h 0
-front_none f h = record { size = refl; there = λ k l. absurd (omega arith); rest = λ k l. refl }
-
-pub front_more : (f : ℕ → ℕ) {h t : List ℕ} {k : ℕ} → k < length t → Front f h t k → Front f h (set t k (f k)) (k + 1)
-front_more f {h} {t} {k} b W =
-    record {
-      size = length-set t k (f k) ∙ W.size;
-      there = λ j l. go j l (ℕ_discrete j k);
-      rest = λ j l. get_or-set_other t k j (f k) 0 (λ e. omega arith) ∙ W.rest j (omega arith);
-    }
-  where
-    go : (j : ℕ) → j < k + 1 → Dec (j ≡ k) → get_or (set t k (f k)) j 0 ≡ f j
-    go j l (yes e) = rw e (get_or-set_same t k (f k) 0 b)
-    go j l (no n) = get_or-set_other t k j (f k) 0 n ∙ W.there j (omega arith)

@@ -1,47 +1,17 @@
 -- The passes, turn by turn.
 -- Assumes nothing.
-use Prim.Native.Nat.{ℕ, suc, ◌+◌, ◌≤◌, ◌<◌}
+use Prim.Native.Nat.{ℕ, suc, max, ◌+◌, ◌<◌}
 use native.Mathlib.Omega.{arith}
-use native.Mathlib.Decide.{ℕ_discrete}
-use mathlib.Core.Path.{◌≡◌, refl, sym, ◌∙◌, ap}
+use native.Mathlib.Decide.{ℕ_discrete, dec_lt}
+use mathlib.Core.Path.{◌≡◌, refl, sym, ◌∙◌}
 use mathlib.Core.Logic.{◌⊎◌, inl, inr}
 use mathlib.Core.List.{List}
-use lib.ListN.{length, get_or, set}
-use Rattle.store.specs.Layout.{count_of, kind_at, pred_at}
+use lib.ListN.{get_or}
+use Rattle.store.specs.Layout.{count_of, pred_at}
 use Rattle.walk.specs.Marks.{Ready, Paint, hit, miss, Painted}
-use Rattle.walk.specs.Passes.{Picked, OneOf, Lists, SomeLists, Reached, start, step, Plain, Deepest}
+use Rattle.walk.specs.Passes.{Picked, Lists, SomeLists, Reached, start, step, Deepest}
 use Rattle.walk.specs.declared.Pick.{Pick}
-use Rattle.walk.proofs.Painting.{painted_as, painted_two, painted_one, ready_early}
-
--- the first i marks
-pub filled_more : {m m' : List ℕ} {i v : ℕ} → i < length m' → Painted (λ j. j < i) v m m' → Painted (λ j. j < i + 1) v m (set m' i v)
-filled_more {m} {m'} {i} {v} h w = painted_as into back (painted_two w (painted_one m' i v h))
-  where
-    into : (j : ℕ) → (j < i) ⊎ (j ≡ i) → j < i + 1
-    into j (inl l) = omega arith
-    into j (inr e) = omega arith
-
-    pick : (j : ℕ) → j < i + 1 → Dec (j ≡ i) → (j < i) ⊎ (j ≡ i)
-    pick j l (yes e) = inr e
-    pick j l (no n) = inl (omega arith)
-
-    back : (j : ℕ) → j < i + 1 → (j < i) ⊎ (j ≡ i)
-    back j l = pick j l (ℕ_discrete j i)
-
--- one place more of those that f names
-pub one_of_more : (f : ℕ → ℕ) (c : ℕ) {m m' : List ℕ} {v : ℕ} → f c < length m' → Painted (OneOf f c) v m m' → Painted (OneOf f (c + 1)) v m (set m' (f c) v)
-one_of_more f c {m} {m'} {v} h w = painted_as into back (painted_two w (painted_one m' (f c) v h))
-  where
-    into : (j : ℕ) → OneOf f c j ⊎ (j ≡ f c) → OneOf f (c + 1) j
-    into j (inl a) = record { nth = a.nth; below = omega (arith, a.below); there = a.there }
-    into j (inr e) = record { nth = c; below = omega arith; there = sym e }
-
-    pick : (j : ℕ) (a : OneOf f (c + 1) j) → Dec (a.nth ≡ c) → OneOf f c j ⊎ (j ≡ f c)
-    pick j a (yes e) = inr (sym a.there ∙ ap f e)
-    pick j a (no n) = inl (record { nth = a.nth; below = omega (arith, a.below, n); there = a.there })
-
-    back : (j : ℕ) → OneOf f (c + 1) j → OneOf f c j ⊎ (j ≡ f c)
-    back j a = pick j a (ℕ_discrete a.nth c)
+use Rattle.walk.proofs.Painting.{painted_as, painted_two, ready_early}
 
 module _ {p : Pick} {s : List ℕ} {i : ℕ} where
   listed_wider : (j : ℕ) → SomeLists p s i j → SomeLists p s (i + 1) j
@@ -142,61 +112,18 @@ module _ {p : Pick} {s m : List ℕ} {r : ℕ} (R : Ready s r) where
       back : (j : ℕ) → Reached p s m i j → Reached p s m (suc i) j
       back j x = drop j (reached_split x)
 
--- taking marks from the first i places that are no updates
-module _ {s : List ℕ} {i : ℕ} where
-  wider : (j : ℕ) → Plain s i j → Plain s (i + 1) j
-  wider j x = record { below = omega (arith, x.below); other = x.other }
+-- one slot more: its depth and one, where that is deeper
+pub deepest_max : (s : List ℕ) (i : ℕ) (m : List ℕ) (k r : ℕ) → Deepest s i m k r → Deepest s i m (k + 1) (max r (get_or m (pred_at s i k) 0 + 1))
+deepest_max s i m k r h = record { above = λ x l. above x l (ℕ_discrete x k); reached = inr (reached h.reached (dec_lt (get_or m (pred_at s i k) 0) r)) }
+  where
+    most : ℕ
+    most = max r (get_or m (pred_at s i k) 0 + 1)
 
-  plain_split : (j : ℕ) → Plain s (i + 1) j → Plain s i j ⊎ ((j ≡ i) × ¬ (kind_at s i ≡ 2))
-  plain_split j x = go (ℕ_discrete j i)
-    where
-      go : Dec (j ≡ i) → Plain s i j ⊎ ((j ≡ i) × ¬ (kind_at s i ≡ 2))
-      go (yes e) = inr (e, rw e at x.other)
-      go (no n) = inl (record { below = omega (arith, x.below, n); other = x.other })
+    above : (x : ℕ) → x < k + 1 → Dec (x ≡ k) → get_or m (pred_at s i x) 0 < most
+    above x l (yes e) = rw e (omega arith)
+    above x l (no n) = omega (arith, h.above x (omega arith))
 
-  pub plain_more : {m m' : List ℕ} → i < length m' → ¬ (kind_at s i ≡ 2) → Painted (Plain s i) 0 m m' → Painted (Plain s (i + 1)) 0 m (set m' i 0)
-  plain_more {m} {m'} h n w = painted_as into back (painted_two w (painted_one m' i 0 h))
-    where
-      into : (j : ℕ) → Plain s i j ⊎ (j ≡ i) → Plain s (i + 1) j
-      into j (inl x) = wider j x
-      into j (inr e) = record { below = omega arith; other = rw e n }
-
-      drop : (j : ℕ) → Plain s i j ⊎ ((j ≡ i) × ¬ (kind_at s i ≡ 2)) → Plain s i j ⊎ (j ≡ i)
-      drop j (inl x) = inl x
-      drop j (inr x) = inr x.0
-
-      back : (j : ℕ) → Plain s (i + 1) j → Plain s i j ⊎ (j ≡ i)
-      back j x = drop j (plain_split j x)
-
-  pub plain_skip : {m m' : List ℕ} → ¬ ¬ (kind_at s i ≡ 2) → Painted (Plain s i) 0 m m' → Painted (Plain s (i + 1)) 0 m m'
-  plain_skip n w = painted_as wider back w
-    where
-      drop : (j : ℕ) → Plain s i j ⊎ ((j ≡ i) × ¬ (kind_at s i ≡ 2)) → Plain s i j
-      drop j (inl x) = x
-      drop j (inr x) = absurd (n x.1)
-
-      back : (j : ℕ) → Plain s (i + 1) j → Plain s i j
-      back j x = drop j (plain_split j x)
-
--- the deepest of the places in the first k slots
-module _ (s : List ℕ) (i : ℕ) (m : List ℕ) where
-  pub deepest_none : Deepest s i m 0 0
-  deepest_none = record { above = λ k h. absurd (omega arith); reached = inl (refl, refl) }
-
-  pub deepest_more : (k r : ℕ) → r ≤ get_or m (pred_at s i k) 0 → Deepest s i m k r → Deepest s i m (k + 1) (get_or m (pred_at s i k) 0 + 1)
-  deepest_more k r h d = record { above = λ x l. above x l (ℕ_discrete x k); reached = inr (k, omega arith, refl) }
-    where
-      above : (x : ℕ) → x < k + 1 → Dec (x ≡ k) → get_or m (pred_at s i x) 0 < get_or m (pred_at s i k) 0 + 1
-      above x l (yes e) = rw e (omega arith)
-      above x l (no n) = omega (arith, d.above x (omega arith))
-
-  pub deepest_keep : (k r : ℕ) → get_or m (pred_at s i k) 0 < r → Deepest s i m k r → Deepest s i m (k + 1) r
-  deepest_keep k r h d = record { above = λ x l. above x l (ℕ_discrete x k); reached = inr (reached d.reached) }
-    where
-      above : (x : ℕ) → x < k + 1 → Dec (x ≡ k) → get_or m (pred_at s i x) 0 < r
-      above x l (yes e) = rw e h
-      above x l (no n) = d.above x (omega arith)
-
-      reached : ((k ≡ 0) × (r ≡ 0)) ⊎ ((x : ℕ) × (x < k) × (get_or m (pred_at s i x) 0 + 1 ≡ r)) → (x : ℕ) × (x < k + 1) × (get_or m (pred_at s i x) 0 + 1 ≡ r)
-      reached (inl z) = absurd (omega (arith, h, z.1))
-      reached (inr x) = (x.0, omega (arith, x.1), x.2)
+    reached : ((k ≡ 0) × (r ≡ 0)) ⊎ ((x : ℕ) × (x < k) × (get_or m (pred_at s i x) 0 + 1 ≡ r)) → Dec (get_or m (pred_at s i k) 0 < r) → (x : ℕ) × (x < k + 1) × (get_or m (pred_at s i x) 0 + 1 ≡ most)
+    reached (inl z) (yes l) = absurd (omega (arith, l, z.1))
+    reached (inr x) (yes l) = (x.0, omega (arith, x.1), omega (arith, x.2))
+    reached a (no n) = (k, omega arith, omega arith)

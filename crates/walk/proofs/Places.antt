@@ -6,12 +6,11 @@ use mathlib.Core.Path.{◌≡◌, refl, sym, ◌∙◌, ap, subst}
 use mathlib.Core.List.{List}
 use Rattle.store.specs.Layout.{count_of, digest_at, preds_at, pred_at, op_of, ops_of}
 use Rattle.store.specs.Answers.{Looked}
-use Rattle.store.specs.declared.Found.{Found}
-use Rattle.store.specs.declared.Found.TheVariants.{At, Nothing}
+use Rattle.std.specs.Prelude.{Option, None}
 use Rattle.rules.specs.Graph.{Op, Held}
 use Rattle.rules.specs.Lists.{◌∈◌}
 use Rattle.store.proofs.Ops.{ops_length, ops_at, checked_distinct, sound_formed, sound_checked}
-use Rattle.store.proofs.Tests.{looked_at, looked_none}
+use Rattle.store.proofs.Tests.{looked_none}
 use Rattle.rules.proofs.Bytes.{row_in, in_row}
 use Rattle.rules.proofs.Formed.{no_op, Formed, one_op}
 use Rattle.rules.proofs.Lists.{at_in, in_at}
@@ -54,11 +53,7 @@ module _ {s : List ℕ} {r : ℕ} (R : Ready s r) where
       let a = in_row 0 (preds_at s i) (λ k. digest_at s (pred_at s i k)) (digest_at s j) m in
       record { nth = a.0; below = a.1; there = one_place (pred_at s i a.0) j (omega (arith, ready_early R i h a.0 a.1)) k a.2 }
 
-  -- looking up a digest tells whether it is held
-  pub looked_held : (f : Found) (d i : ℕ) → Looked f s (count_of s) d → f ≡ At i → Held (ops_of s) d
-  looked_held f d i l e = let a = looked_at f s (count_of s) d i l e in subst (Held (ops_of s)) a.1 (held_at i a.0)
-
-  pub looked_unheld : (f : Found) (d : ℕ) → Looked f s (count_of s) d → f ≡ Nothing → ¬ Held (ops_of s) d
+  pub looked_unheld : (f : Option ℕ) (d : ℕ) → Looked f s (count_of s) d → f ≡ None → ¬ Held (ops_of s) d
   looked_unheld f d l e h =
       let a = place_of h.stands in
       looked_none f s (count_of s) d l e a.0 a.1 (ap (λ o. o.digest) a.2 ∙ h.named)

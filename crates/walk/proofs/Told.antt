@@ -17,7 +17,7 @@ use Rattle.store.proofs.Ops.{no_preds}
 use Rattle.rules.proofs.Bytes.{row_in, in_row}
 use Rattle.rules.proofs.Past.{Reach, starts, steps, reach_past, past_reach, reach_met, met_reach}
 use Rattle.walk.specs.Marks.{Ready, Paint, hit, miss, Painted, Tells, Told}
-use Rattle.walk.specs.Passes.{Passes, Lists, SomeLists, Reached, start, step, Plain, Deepest, Deep, Moved}
+use Rattle.walk.specs.Passes.{Passes, Lists, SomeLists, Reached, start, step, Plain, Deepest, Moved}
 use Rattle.walk.specs.declared.Pick.{Pick}
 use Rattle.walk.specs.declared.Pick.TheVariants.{All, Updates, Others}
 use Rattle.walk.proofs.Painting.{ready_early, Marking}
@@ -218,16 +218,14 @@ module _ {s : List ℕ} {r : ℕ} (R : Ready s r) where
       back : (j : ℕ) → j < count_of s → Child (ops_of s) (digest_at s p) (digest_at s j) → Lists s j p
       back j l k = in_lists R j p l h (subst (λ o. digest_at s p ∈ o.preds) (op_here R j l k.stands k.named) k.lists)
 
-  -- depths: the first i are measured
-  pub record Measured (i : ℕ) (m m' : List ℕ) : Type 0 where
-    pub size : length m' ≡ length m
-    pub each : (j : ℕ) → j < i → Depth (ops_of s) (digest_at s j) (get_or m' j 0)
-    pub low : (j : ℕ) → j < i → get_or m' j 0 ≤ j
-    pub rest : (j : ℕ) → i ≤ j → get_or m' j 0 ≡ get_or m j 0
+-- depths: the first i are measured
+pub record Measured (s : List ℕ) (i : ℕ) (m m' : List ℕ) : Type 0 where
+  pub size : length m' ≡ length m
+  pub each : (j : ℕ) → j < i → Depth (ops_of s) (digest_at s j) (get_or m' j 0)
+  pub low : (j : ℕ) → j < i → get_or m' j 0 ≤ j
+  pub rest : (j : ℕ) → i ≤ j → get_or m' j 0 ≡ get_or m j 0
 
-  pub measured_none : (m : List ℕ) → Measured 0 m m
-  measured_none m = record { size = refl; each = λ j h. absurd (omega arith); low = λ j h. absurd (omega arith); rest = λ j h. refl }
-
+module _ {s : List ℕ} {r : ℕ} (R : Ready s r) where
   depth_here : {m : List ℕ} (i r : ℕ) → i < count_of s → ((j : ℕ) → j < i → Depth (ops_of s) (digest_at s j) (get_or m j 0)) → Deepest s i m (preds_at s i) r → Depth (ops_of s) (digest_at s i) r
   depth_here {m} i r h f d = go d.reached
     where
@@ -247,7 +245,7 @@ module _ {s : List ℕ} {r : ℕ} (R : Ready s r) where
           (λ q l. omega (arith, d.above (slot q l).0 (slot q l).1, e))
           (λ q l. subst (λ y. Depth (ops_of s) y (get_or m (pred_at s i (slot q l).0) 0)) (slot q l).2 (f (pred_at s i (slot q l).0) (ready_early R i h (slot q l).0 (slot q l).1))))
 
-  pub measured_more : {m m' : List ℕ} (i r : ℕ) → i < count_of s → i < length m' → r ≤ i → Deepest s i m' (preds_at s i) r → Measured i m m' → Measured (i + 1) m (set m' i r)
+  pub measured_more : {m m' : List ℕ} (i r : ℕ) → i < count_of s → i < length m' → r ≤ i → Deepest s i m' (preds_at s i) r → Measured s i m m' → Measured s (i + 1) m (set m' i r)
   measured_more {m} {m'} i r h b l d w =
       record {
         size = length-set m' i r ∙ w.size;
@@ -263,6 +261,3 @@ module _ {s : List ℕ} {r : ℕ} (R : Ready s r) where
       low : (j : ℕ) → j < i + 1 → Dec (j ≡ i) → get_or (set m' i r) j 0 ≤ j
       low j x (yes e) = rw e (rw (get_or-set_same m' i r 0 b) l)
       low j x (no n) = rw (get_or-set_other m' i j r 0 n) (w.low j (omega arith))
-
-  pub measured_deep : {m m' : List ℕ} → Measured (count_of s) m m' → Deep s m m'
-  measured_deep w = record { size = w.size; each = w.each; rest = w.rest }

@@ -1,6 +1,7 @@
 #![tactic(auto)]
-// Walks over a sound store: each leaves a mark for each of its operations, in arrays that the caller lends.
-ghost use Rattle.std.specs.Prelude.{ℕ, ◌+◌, ◌*◌, ◌/◌, ◌≤◌, ◌<◌, [], ◌∷◌, length, get_or};
+// Walks over a sound store: each leaves a mark for each of its operations, in arrays by place that the caller lends, as the rules have
+// work arrays. What is asked of them is room: it speaks of graph and array, so that no type of either can hold it.
+ghost use Rattle.std.specs.Prelude.{ℕ, ◌+◌, ◌*◌, ◌/◌, ◌%◌, ◌≤◌, ◌<◌, ◌≡◌, [], ◌∷◌, length, get_or};
 ghost use Rattle.rules.specs.Bytes.{digest_of, digests_of};
 ghost use Rattle.rules.specs.Answers.{Says};
 ghost use Rattle.rules.specs.Lists.{◌∈◌};
@@ -10,15 +11,15 @@ ghost use Rattle.rules.specs.Updates.{Chainable};
 ghost use Rattle.digest.specs.Lists.{nth, Among};
 ghost use Rattle.store.specs.Layout.{count_of, digest_at, preds_at, ops_of};
 ghost use Rattle.store.specs.Answers.{Looked};
-ghost use Rattle.walk.specs.Marks.{Ready, Painted, Told};
+ghost use Rattle.walk.specs.Marks.{Painted, Told};
 ghost use Rattle.walk.specs.Passes.{Picked, Lists, SomeLists, Reached, Plain, Deepest, Deep, Moved};
 ghost use Rattle.walk.specs.Held.{Sized, UnheldAmong, Adds, MarkedAdd};
 ghost use Rattle.walk.specs.declared.Pick.TheVariants.{All};
 
-use digest::Order;
-use store::Found;
+use rules::Kind;
+use store::Graph;
 
-// Which records a pass takes.
+// Which records a pass takes. A closure would be no plainer: what a pass reaches is defined by the kinds that it takes.
 #[derive(Clone, Copy)]
 pub enum Pick {
     All,
@@ -26,279 +27,221 @@ pub enum Pick {
     Others,
 }
 
-fn picks(s: &[u8], i: usize, p: Pick) -> bool
-    requires { 162 + 98 * i ≤ length s.now }
-    ensures { Says result (Picked p s.now i) }
-{
-    let update = store::kind_at(s, i) == 2;
-    match p {
-        Pick::All => true,
-        Pick::Updates => update,
-        Pick::Others => !update,
+impl Pick {
+    // Whether the pass takes record i.
+    fn takes(self, graph: Graph, i: usize) -> bool
+        requires { i < count_of graph.bytes.now }
+        ensures { Says result (Picked self graph.entry.bytes.now i) }
+    {
+        match self {
+            Pick::All => true,
+            Pick::Updates => graph.kind(i) == Kind::Update,
+            Pick::Others => graph.kind(i) != Kind::Update,
+        }
     }
 }
 
-// Gives the first n marks the value v.
+// Gives the first n marks the value v: the library's fill, in the words of `Painted`, which each pass reads.
 pub fn fill(marks: &mut [u8], n: usize, v: u8)
     requires { n ≤ length marks.old }
     ensures { Painted (λ j. j < n) v marks.old marks.new }
 {
-    let mut i: usize = 0;
-    while i < n {
-        marks[i] = v;
-        i += 1;
-    }
+    marks[..n].fill(v);
 }
 
 // Gives the places that record i lists the mark v.
-fn mark_listed(s: &[u8], i: usize, marks: &mut [u8], v: u8)
-    requires ready { Ready s.now (length marks.old) }
-    requires i_bound { i < count_of s.now }
-    ensures { Painted (Lists s.now i) v marks.old marks.new }
+fn mark_listed(graph: Graph, i: usize, marks: &mut [u8], v: u8)
+    requires room { count_of graph.bytes.now ≤ length marks.old }
+    requires i_bound { i < count_of graph.bytes.now }
+    ensures { Painted (Lists graph.entry.bytes.now i) v marks.old marks.new }
 {
-    let c = store::preds_at(s, i);
-    let mut k: usize = 0;
-    while k < c {
-        marks[store::pred_at(s, i, k)] = v;
-        k += 1;
+    for k in 0..store::preds_at(graph.bytes, i) {
+        marks[store::pred_at(graph.bytes, i, k)] = v;
     }
 }
 
 // Gives all places that picked records list the mark v.
-fn mark_all_listed(s: &[u8], p: Pick, marks: &mut [u8], v: u8)
-    requires { Ready s.now (length marks.old) }
-    ensures { Painted (SomeLists p s.now (count_of s.now)) v marks.old marks.new }
+fn mark_all_listed(graph: Graph, pick: Pick, marks: &mut [u8], v: u8)
+    requires room { count_of graph.bytes.now ≤ length marks.old }
+    ensures { Painted (SomeLists pick graph.entry.bytes.now (count_of graph.entry.bytes.now)) v marks.old marks.new }
 {
-    let n = store::count(s);
-    let mut i: usize = 0;
-    while i < n {
-        if picks(s, i, p) {
-            mark_listed(s, i, marks, v);
+    for i in 0..graph.count() {
+        if pick.takes(graph, i) {
+            mark_listed(graph, i, marks, v);
         }
-        i += 1;
     }
 }
 
 // Spreads the marks from each marked and picked record to the places that it lists.
-fn spread(s: &[u8], p: Pick, marks: &mut [u8])
-    requires { Ready s.now (length marks.old) }
-    ensures { Painted (Reached p s.now marks.old 0) 1 marks.old marks.new }
+fn spread(graph: Graph, pick: Pick, marks: &mut [u8])
+    requires room { count_of graph.bytes.now ≤ length marks.old }
+    ensures { Painted (Reached pick graph.entry.bytes.now marks.old 0) 1 marks.old marks.new }
 {
-    let mut i = store::count(s);
-    while 0 < i {
-        i -= 1;
-        if marks[i] == 1 {
-            if picks(s, i, p) {
-                mark_listed(s, i, marks, 1);
-            }
+    for i in (0..graph.count()).rev() {
+        if marks[i] == 1 && pick.takes(graph, i) {
+            mark_listed(graph, i, marks, 1);
         }
     }
 }
 
 // Takes the mark from each place that isn't an update.
-fn keep_updates(s: &[u8], marks: &mut [u8])
-    requires { Ready s.now (length marks.old) }
-    ensures { Painted (Plain s.now (count_of s.now)) 0 marks.old marks.new }
+fn keep_updates(graph: Graph, marks: &mut [u8])
+    requires room { count_of graph.bytes.now ≤ length marks.old }
+    ensures { Painted (Plain graph.entry.bytes.now (count_of graph.entry.bytes.now)) 0 marks.old marks.new }
 {
-    let n = store::count(s);
-    let mut i: usize = 0;
-    while i < n {
-        if picks(s, i, Pick::Others) {
+    for i in 0..graph.count() {
+        if graph.kind(i) != Kind::Update {
             marks[i] = 0;
         }
-        i += 1;
     }
 }
 
 // Moves the marks to the nearest updates: those met first going back from them.
-pub fn nearest(s: &[u8], marks: &mut [u8])
-    requires { Ready s.now (length marks.old) }
-    ensures { Moved s.now marks.old marks.new }
+pub fn nearest(graph: Graph, marks: &mut [u8])
+    requires room { count_of graph.bytes.now ≤ length marks.old }
+    ensures { Moved graph.entry.bytes.now marks.old marks.new }
 {
-    spread(s, Pick::Others, marks);
-    keep_updates(s, marks);
+    spread(graph, Pick::Others, marks);
+    keep_updates(graph, marks);
 }
 
 // Marks the heads.
-pub fn mark_heads(s: &[u8], marks: &mut [u8])
-    requires { Ready s.now (length marks.old) }
-    ensures { Told s.now (Head (ops_of s.now)) marks.old marks.new }
+pub fn mark_heads(graph: Graph, marks: &mut [u8])
+    requires room { count_of graph.bytes.now ≤ length marks.old }
+    ensures { Told graph.entry.bytes.now (Head (ops_of graph.entry.bytes.now)) marks.old marks.new }
 {
-    fill(marks, store::count(s), 1);
-    mark_all_listed(s, Pick::All, marks, 0);
+    fill(marks, graph.count(), 1);
+    mark_all_listed(graph, Pick::All, marks, 0);
 }
 
 // Marks the chainable updates: those met going back from what updates list.
-pub fn chainable(s: &[u8], marks: &mut [u8])
-    requires { Ready s.now (length marks.old) }
-    ensures { Told s.now (Chainable (ops_of s.now)) marks.old marks.new }
+pub fn chainable(graph: Graph, marks: &mut [u8])
+    requires room { count_of graph.bytes.now ≤ length marks.old }
+    ensures { Told graph.entry.bytes.now (Chainable (ops_of graph.entry.bytes.now)) marks.old marks.new }
 {
-    fill(marks, store::count(s), 0);
-    mark_all_listed(s, Pick::Updates, marks, 1);
-    nearest(s, marks);
+    fill(marks, graph.count(), 0);
+    mark_all_listed(graph, Pick::Updates, marks, 1);
+    nearest(graph, marks);
 }
 
 // Spreads the marks to all that is at or before a marked place.
-pub fn past(s: &[u8], marks: &mut [u8])
-    requires { Ready s.now (length marks.old) }
-    ensures { Painted (Reached All s.now marks.old 0) 1 marks.old marks.new }
+pub fn past(graph: Graph, marks: &mut [u8])
+    requires room { count_of graph.bytes.now ≤ length marks.old }
+    ensures { Painted (Reached All graph.entry.bytes.now marks.old 0) 1 marks.old marks.new }
 {
-    spread(s, Pick::All, marks);
+    spread(graph, Pick::All, marks);
 }
 
 // Whether record i lists place p.
-fn lists(s: &[u8], i: usize, p: usize) -> bool
-    requires { (162 + 98 * i ≤ length s.now) × (preds_at s.now i ≤ 16) }
-    ensures { Says result (Lists s.now i p) }
+fn lists(graph: Graph, i: usize, p: usize) -> bool
+    requires { i < count_of graph.bytes.now }
+    ensures { Says result (Lists graph.entry.bytes.now i p) }
 {
-    let c = store::preds_at(s, i);
-    let mut k: usize = 0;
-    while k < c {
-        if store::pred_at(s, i, k) == p {
-            return true;
-        }
-        k += 1;
-    }
-    false
+    (0..store::preds_at(graph.bytes, i)).any(|k| store::pred_at(graph.bytes, i, k) == p)
 }
 
 // Marks the children of the operation at place p.
-pub fn children(s: &[u8], p: usize, marks: &mut [u8])
-    requires ready { Ready s.now (length marks.old) }
-    requires p_bound { p < count_of s.now }
-    ensures { Told s.now (Child (ops_of s.now) (digest_at s.now p)) marks.old marks.new }
+pub fn children(graph: Graph, p: usize, marks: &mut [u8])
+    requires room { count_of graph.bytes.now ≤ length marks.old }
+    requires p_bound { p < count_of graph.bytes.now }
+    ensures { Told graph.entry.bytes.now (Child (ops_of graph.entry.bytes.now) (digest_at graph.entry.bytes.now p)) marks.old marks.new }
 {
-    let n = store::count(s);
-    let mut i: usize = 0;
-    while i < n {
-        marks[i] = if lists(s, i, p) { 1 } else { 0 };
-        i += 1;
+    for i in 0..graph.count() {
+        marks[i] = u8::from(lists(graph, i, p));
     }
 }
 
 // One more than the deepest of the places that record i lists; zero if it lists none.
-fn depth_at(s: &[u8], i: usize, depths: &[u16]) -> u16
-    requires ready { Ready s.now (length depths.now) }
-    requires i_bound { i < count_of s.now }
+fn depth_at(graph: Graph, i: usize, depths: &[u16]) -> u16
+    requires room { count_of graph.bytes.now ≤ length depths.now }
+    requires i_bound { i < count_of graph.bytes.now }
     requires by_index { (j : ℕ) → j < i → get_or depths.now j 0 ≤ j }
-    ensures { (result ≤ i) × Deepest s.now i depths.now (preds_at s.now i) result }
+    ensures { (result ≤ i) × Deepest graph.entry.bytes.now i depths.now (preds_at graph.entry.bytes.now i) result }
 {
-    let c = store::preds_at(s, i);
     let mut deep: u16 = 0;
-    let mut k: usize = 0;
-    while k < c {
-        let d = depths[store::pred_at(s, i, k)];
-        if deep <= d {
-            deep = d + 1;
-        }
-        k += 1;
+    for k in 0..store::preds_at(graph.bytes, i) {
+        deep = deep.max(depths[store::pred_at(graph.bytes, i, k)] + 1);
     }
     deep
 }
 
 // Writes the depth of each operation.
-pub fn depths(s: &[u8], depths: &mut [u16])
-    requires { Ready s.now (length depths.old) }
-    ensures { Deep s.now depths.old depths.new }
+pub fn depths(graph: Graph, depths: &mut [u16])
+    requires room { count_of graph.bytes.now ≤ length depths.old }
+    ensures { Deep graph.entry.bytes.now depths.old depths.new }
 {
-    let n = store::count(s);
-    let mut i: usize = 0;
-    while i < n {
-        depths[i] = depth_at(s, i, depths);
-        i += 1;
+    for i in 0..graph.count() {
+        depths[i] = depth_at(graph, i, depths);
     }
 }
 
 // The place of a digest.
-pub fn place_of(s: &[u8], digest: &[u8]) -> Found
-    requires ready { Ready s.now (count_of s.now) }
-    requires in_bounds { 32 ≤ length digest.now }
-    ensures { Looked result s.now (count_of s.now) (digest_of digest.now) }
+pub fn place_of(graph: Graph, digest: &[u8]) -> Option<usize>
+    requires { 32 ≤ length digest.now }
+    ensures { Looked result graph.entry.bytes.now (count_of graph.entry.bytes.now) (digest_of digest.now) }
 {
-    store::look_up(s, store::count(s), digest, 0)
+    store::look_up(graph.bytes, graph.count(), digest)
 }
 
-// Whether the k-th digest of a list stands in it before.
-fn stood(l: &[u8], k: usize) -> bool
-    requires { 32 * k + 32 ≤ length l.now }
-    ensures { Says result (Among l.now k (nth l.now k)) }
+// Whether digests j and k of a list are the same.
+fn same(list: &[u8], j: usize, k: usize) -> bool
+    requires { (32 * j + 32 ≤ length list.now) × (32 * k + 32 ≤ length list.now) }
+    ensures { Says result (nth list.now j ≡ nth list.now k) }
 {
-    let mut j: usize = 0;
-    while j < k {
-        if let Order::Equal = digest::compare(l, 32 * j, l, 32 * k) {
-            return true;
-        }
-        j += 1;
-    }
-    false
+    digest::compare(&list[32 * j..], &list[32 * k..]).is_eq()
+}
+
+// Whether digest k of a list stands in it before.
+fn stood(list: &[u8], k: usize) -> bool
+    requires { 32 * k + 32 ≤ length list.now }
+    ensures { Says result (Among list.now k (nth list.now k)) }
+{
+    (0..k).any(|j| same(list, j, k))
 }
 
 // Marks the held digests of a list and counts those that aren't held, each once.
-pub fn mark_held(s: &[u8], l: &[u8], marks: &mut [u8]) -> usize
-    requires { Ready s.now (length marks.old) }
-    ensures { Told s.now (λ d. d ∈ digests_of l.now) marks.old marks.new × Sized (UnheldAmong s.now l.now (length l.now / 32)) result }
+pub fn mark_held(graph: Graph, list: &[u8], marks: &mut [u8]) -> usize
+    requires room { count_of graph.bytes.now ≤ length marks.old }
+    ensures { Told graph.entry.bytes.now (λ d. d ∈ digests_of list.now) marks.old marks.new × Sized (UnheldAmong graph.entry.bytes.now list.now (length list.now / 32)) result }
 {
-    let n = store::count(s);
-    fill(marks, n, 0);
-    let c = l.len() / 32;
+    fill(marks, graph.count(), 0);
     let mut missing: usize = 0;
-    let mut k: usize = 0;
-    while k < c {
-        k += 1;
-        match store::look_up(s, n, l, 32 * (k - 1)) {
-            Found::At(i) => {
-                marks[i] = 1;
-            }
-            Found::Nothing => {
-                if stood(l, k - 1) {} else {
-                    missing += 1;
-                }
-            }
+    for k in 0..list.len() / 32 {
+        if let Some(i) = place_of(graph, &list[32 * k..]) {
+            marks[i] = 1;
+        } else if !stood(list, k) {
+            missing += 1;
         }
     }
     missing
 }
 
-fn adds(s: &[u8], i: usize, member: &[u8]) -> bool
-    requires { (162 + 98 * i ≤ length s.now) × (32 ≤ length member.now) }
-    ensures { Says result (Adds s.now i (digest_of member.now)) }
+// Whether record i is an add of the member.
+fn adds(graph: Graph, i: usize, member: &[u8]) -> bool
+    requires i_bound { i < count_of graph.bytes.now }
+    requires in_bounds { 32 ≤ length member.now }
+    ensures { Says result (Adds graph.entry.bytes.now i (digest_of member.now)) }
 {
-    if store::kind_at(s, i) == 0 {
-        if let Order::Equal = digest::compare(s, 96 + 98 * i, member, 0) {
-            return true;
-        }
-        return false;
-    }
-    false
+    graph.kind(i) == Kind::Add && digest::compare(store::member_at(graph.bytes, i), member).is_eq()
 }
 
 // Whether a marked operation is an add of the member.
-fn any_add(s: &[u8], marks: &[u8], member: &[u8]) -> bool
-    requires ready { Ready s.now (length marks.now) }
+fn any_add(graph: Graph, marks: &[u8], member: &[u8]) -> bool
+    requires room { count_of graph.bytes.now ≤ length marks.now }
     requires in_bounds { 32 ≤ length member.now }
-    ensures { Says result (MarkedAdd s.now marks.now (count_of s.now) (digest_of member.now)) }
+    ensures { Says result (MarkedAdd graph.entry.bytes.now marks.now (count_of graph.entry.bytes.now) (digest_of member.now)) }
 {
-    let n = store::count(s);
-    let mut i: usize = 0;
-    while i < n {
-        if marks[i] == 1 {
-            if adds(s, i, member) {
-                return true;
-            }
-        }
-        i += 1;
-    }
-    false
+    (0..graph.count()).any(|i| marks[i] == 1 && adds(graph, i, member))
 }
 
 // Whether an add of the member is at or before place p; marks what is there.
-pub fn add_before(s: &[u8], p: usize, member: &[u8], marks: &mut [u8]) -> bool
-    requires ready { Ready s.now (length marks.old) }
-    requires p_bound { (p < count_of s.now) × (32 ≤ length member.now) }
-    ensures { Says result (AddBefore (ops_of s.now) (digest_of member.now) (digest_at s.now p)) × Told s.now (InPast (ops_of s.now) (digest_at s.now p ∷ [])) marks.old marks.new }
+pub fn add_before(graph: Graph, p: usize, member: &[u8], marks: &mut [u8]) -> bool
+    requires room { count_of graph.bytes.now ≤ length marks.old }
+    requires p_bound { (p < count_of graph.bytes.now) × (32 ≤ length member.now) }
+    ensures { Says result (AddBefore (ops_of graph.entry.bytes.now) (digest_of member.now) (digest_at graph.entry.bytes.now p)) × Told graph.entry.bytes.now (InPast (ops_of graph.entry.bytes.now) (digest_at graph.entry.bytes.now p ∷ [])) marks.old marks.new }
 {
-    fill(marks, store::count(s), 0);
+    fill(marks, graph.count(), 0);
     marks[p] = 1;
-    past(s, marks);
-    any_add(s, marks, member)
+    past(graph, marks);
+    any_add(graph, marks, member)
 }

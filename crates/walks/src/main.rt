@@ -1,213 +1,191 @@
 #![tactic(auto)]
 // Runs the walks and the orders over the graphs of the rules; prints what they mark and in which order.
-ghost use Rattle.std.specs.Prelude.{length};
-ghost use Rattle.walk.specs.Marks.{Ready};
-
-use printing::{bit, digest, expand, listed, number, say, text};
+use order::Ranking;
+use printing::{digest, expand, listed, number_of};
+use rules::Kind;
+use rules::Kind::{Add, Remove, Update};
 use std::io;
-use store::Found;
+use store::Graph;
+
+// Makes the store fresh.
+fn fresh(s: &mut [u8]) {
+    let _ = admission::fresh(s);
+}
 
 // Admits an operation with no member; a list is written with one digit a digest.
-fn put(s: &mut [u8], n: u8, kind: u8, digits: &[u8]) {
+fn put(s: &mut [u8], n: u8, kind: Kind, digits: &str) {
     let mut list = [0u8; 512];
     let mut out = [170u8; 512];
-    let len = expand(digits, &mut list);
-    admission::add_op(s, &digest(n), kind, &digest(0), &list[..len], &mut out);
+    let len = expand(digits.as_bytes(), &mut list);
+    let _ = admission::add_op(
+        s,
+        &digest(n),
+        kind.into(),
+        &digest(0),
+        &list[..len],
+        &mut out,
+    );
 }
 
 // The marked digests, ascending.
-fn set(rt: &impl Print, label: &[u8], s: &[u8], marks: &[u8]) -> io::Result<()>
-    requires ready { Ready s.now (length marks.now) }
-    requires ready_2 { Ready s.now 512 }
-{
+fn set(rt: &impl Print, label: &str, graph: Graph, marks: &[u8; 512]) -> io::Result<()> {
     let mut places = [0u16; 512];
     let mut out = [170u8; 512];
-    let a = order::write_set(s, marks, &mut places, &mut out);
-    text(rt, label)?;
-    listed(rt, a.number, a.count, &out)
+    let answer = order::write_set(graph, marks, &mut places, &mut out);
+    print!(rt; "{label}:")?;
+    listed(rt, number_of(&answer), answer.unwrap_or(0), &out)
 }
 
-fn heads(rt: &impl Print, s: &[u8]) -> io::Result<()>
-    requires { Ready s.now 512 }
-{
+fn heads(rt: &impl Print, graph: Graph) -> io::Result<()> {
     let mut marks = [0u8; 512];
-    walk::mark_heads(s, &mut marks);
-    set(rt, b"heads:", s, &marks)
+    walk::mark_heads(graph, &mut marks);
+    set(rt, "heads", graph, &marks)
 }
 
-fn chainable(rt: &impl Print, s: &[u8]) -> io::Result<()>
-    requires { Ready s.now 512 }
-{
+fn chainable(rt: &impl Print, graph: Graph) -> io::Result<()> {
     let mut marks = [0u8; 512];
-    walk::chainable(s, &mut marks);
-    set(rt, b"chainable:", s, &marks)
+    walk::chainable(graph, &mut marks);
+    set(rt, "chainable", graph, &marks)
 }
 
 // What is at or before the digests of a list; how many of them aren't held.
-fn past(rt: &impl Print, s: &[u8], digits: &[u8]) -> io::Result<()>
-    requires { Ready s.now 512 }
-{
+fn past(rt: &impl Print, graph: Graph, digits: &str) -> io::Result<()> {
     let mut list = [0u8; 512];
     let mut marks = [0u8; 512];
-    let len = expand(digits, &mut list);
-    let missing = walk::mark_held(s, &list[..len], &mut marks);
-    walk::past(s, &mut marks);
-    text(rt, b"missing")?;
-    number(rt, missing as u64)?;
-    set(rt, b", at or before:", s, &marks)
+    let len = expand(digits.as_bytes(), &mut list);
+    let missing = walk::mark_held(graph, &list[..len], &mut marks);
+    walk::past(graph, &mut marks);
+    print!(rt; "missing {missing}")?;
+    set(rt, ", at or before", graph, &marks)
 }
 
-fn nearest(rt: &impl Print, s: &[u8], digits: &[u8]) -> io::Result<()>
-    requires { Ready s.now 512 }
-{
+fn nearest(rt: &impl Print, graph: Graph, digits: &str) -> io::Result<()> {
     let mut list = [0u8; 512];
     let mut marks = [0u8; 512];
-    let len = expand(digits, &mut list);
-    walk::mark_held(s, &list[..len], &mut marks);
-    walk::nearest(s, &mut marks);
-    set(rt, b"nearest updates:", s, &marks)
+    let len = expand(digits.as_bytes(), &mut list);
+    walk::mark_held(graph, &list[..len], &mut marks);
+    walk::nearest(graph, &mut marks);
+    set(rt, "nearest updates", graph, &marks)
 }
 
 // The children of a digest.
-fn children(rt: &impl Print, s: &[u8], n: u8) -> io::Result<()>
-    requires { Ready s.now 512 }
-{
-    let d = digest(n);
+fn children(rt: &impl Print, graph: Graph, n: u8) -> io::Result<()> {
+    let Some(i) = walk::place_of(graph, &digest(n)) else {
+        return Ok(());
+    };
     let mut marks = [0u8; 512];
-    if let Found::At(i) = walk::place_of(s, &d) {
-        walk::children(s, i, &mut marks);
-        text(rt, b"of")?;
-        number(rt, n as u64)?;
-        set(rt, b" children:", s, &marks)?;
-    }
-    Ok(())
+    walk::children(graph, i, &mut marks);
+    print!(rt; "of {n}")?;
+    set(rt, " children", graph, &marks)
 }
 
 // Whether an add of the empty member is at or before a digest.
-fn add_before(rt: &impl Print, s: &[u8], n: u8) -> io::Result<()>
-    requires { Ready s.now 512 }
-{
-    let d = digest(n);
-    let member = [0u8; 32];
+fn add_before(rt: &impl Print, graph: Graph, n: u8) -> io::Result<()> {
+    let Some(i) = walk::place_of(graph, &digest(n)) else {
+        return Ok(());
+    };
     let mut marks = [0u8; 512];
-    if let Found::At(i) = walk::place_of(s, &d) {
-        say(
-            rt,
-            b"add before:",
-            bit(walk::add_before(s, i, &member, &mut marks)),
-        )?;
-    }
-    Ok(())
-}
-
-fn wide(x: u16) -> u64 {
-    x as u64
-}
-
-// Prints the first c depths.
-fn depths(rt: &impl Print, depths: &[u16], c: usize) -> io::Result<()> {
-    text(rt, b"depths:")?;
-    for k in 0..c {
-        if depths.len() <= k {
-            return Ok(());
-        }
-        number(rt, wide(depths[k]))?;
-    }
-    text(rt, b"\n")
+    let before = walk::add_before(graph, i, &digest(0), &mut marks);
+    println!(rt; "add before: {}", u8::from(before))
 }
 
 // All operations by depth, then digest; and their depths in order of admission.
-fn by_depth(rt: &impl Print, s: &[u8]) -> io::Result<()>
-    requires { Ready s.now 512 }
-{
-    let mut deep = [0u16; 512];
+fn by_depth(rt: &impl Print, graph: Graph) -> io::Result<()> {
+    let mut depths = [0u16; 512];
     let mut marks = [0u8; 512];
     let mut places = [0u16; 512];
     let mut out = [170u8; 512];
-    let n = store::count(s);
-    walk::depths(s, &mut deep);
+    let n = graph.count();
+    walk::depths(graph, &mut depths);
     walk::fill(&mut marks, n, 1);
-    let a = order::write_marked(s, &deep, &marks, &mut places, &mut out);
-    text(rt, b"by depth:")?;
-    listed(rt, a.number, a.count, &out)?;
-    depths(rt, &deep, n)
+    let ranking = Ranking {
+        graph,
+        depths: &depths,
+    };
+    let answer = order::write_marked(ranking, &marks, &mut places, &mut out);
+    print!(rt; "by depth:")?;
+    listed(rt, number_of(&answer), answer.unwrap_or(0), &out)?;
+    print!(rt; "depths:")?;
+    for depth in depths.iter().take(n) {
+        print!(rt; " {depth}")?;
+    }
+    println!(rt)
 }
 
-fn walks(rt: &impl Print, s: &[u8], digits: &[u8]) -> io::Result<()> {
-    if refusal::of_store(s) == 0 {
-        by_depth(rt, s)?;
-        heads(rt, s)?;
-        chainable(rt, s)?;
-        past(rt, s, digits)?;
-        nearest(rt, s, digits)?;
-        children(rt, s, 1)?;
-        children(rt, s, 3)?;
-        add_before(rt, s, 3)?;
-    }
-    Ok(())
+fn walks(rt: &impl Print, s: &[u8], digits: &str) -> io::Result<()> {
+    let Ok(graph) = refusal::of_store(s) else {
+        return Ok(());
+    };
+    by_depth(rt, graph)?;
+    heads(rt, graph)?;
+    chainable(rt, graph)?;
+    past(rt, graph, digits)?;
+    nearest(rt, graph, digits)?;
+    children(rt, graph, 1)?;
+    children(rt, graph, 3)?;
+    add_before(rt, graph, 3)
 }
 
 // Makes a store fresh and begins a graph with an add.
-fn begin(rt: &impl Print, s: &mut [u8], label: &[u8]) -> io::Result<()> {
-    text(rt, label)?;
-    text(rt, b"\n")?;
-    admission::fresh(s);
-    put(s, 1, 0, b"");
+fn begin(rt: &impl Print, s: &mut [u8], label: &str) -> io::Result<()> {
+    println!(rt; "{label}")?;
+    fresh(s);
+    put(s, 1, Add, "");
     Ok(())
 }
 
 fn graph_with_skip(rt: &impl Print, s: &mut [u8]) -> io::Result<()> {
-    begin(rt, s, b"1, 2(1), 3(2,1)")?;
-    put(s, 2, 1, b"1");
-    put(s, 3, 1, b"21");
-    walks(rt, s, b"2")
+    begin(rt, s, "1, 2(1), 3(2,1)")?;
+    put(s, 2, Remove, "1");
+    put(s, 3, Remove, "21");
+    walks(rt, s, "2")
 }
 
 fn graph_with_span(rt: &impl Print, s: &mut [u8]) -> io::Result<()> {
-    begin(rt, s, b"1, 2(1), 3(2), 4(3,1)")?;
-    put(s, 2, 1, b"1");
-    put(s, 3, 1, b"2");
-    put(s, 4, 1, b"31");
-    walks(rt, s, b"4")
+    begin(rt, s, "1, 2(1), 3(2), 4(3,1)")?;
+    put(s, 2, Remove, "1");
+    put(s, 3, Remove, "2");
+    put(s, 4, Remove, "31");
+    walks(rt, s, "4")
 }
 
 fn graph_k(rt: &impl Print, s: &mut [u8]) -> io::Result<()> {
-    begin(rt, s, b"1, 2(1), 3(1), 4(3)")?;
-    put(s, 2, 1, b"1");
-    put(s, 3, 1, b"1");
-    put(s, 4, 1, b"3");
-    walks(rt, s, b"3")?;
-    walks(rt, s, b"99283")
+    begin(rt, s, "1, 2(1), 3(1), 4(3)")?;
+    put(s, 2, Remove, "1");
+    put(s, 3, Remove, "1");
+    put(s, 4, Remove, "3");
+    walks(rt, s, "3")?;
+    walks(rt, s, "99283")
 }
 
 fn graph_not_ascending(rt: &impl Print, s: &mut [u8]) -> io::Result<()> {
-    begin(rt, s, b"1, 5(1), 2(5), 4(1), 3(1)")?;
-    put(s, 5, 1, b"1");
-    put(s, 2, 1, b"5");
-    put(s, 4, 1, b"1");
-    put(s, 3, 1, b"1");
-    walks(rt, s, b"25")
+    begin(rt, s, "1, 5(1), 2(5), 4(1), 3(1)")?;
+    put(s, 5, Remove, "1");
+    put(s, 2, Remove, "5");
+    put(s, 4, Remove, "1");
+    put(s, 3, Remove, "1");
+    walks(rt, s, "25")
 }
 
 fn graph_of_two_adds(rt: &impl Print, s: &mut [u8]) -> io::Result<()> {
-    begin(rt, s, b"adds 1 and 2")?;
-    put(s, 2, 0, b"");
-    walks(rt, s, b"")
+    begin(rt, s, "adds 1 and 2")?;
+    put(s, 2, Add, "");
+    walks(rt, s, "")
 }
 
 fn graph_of_updates(rt: &impl Print, s: &mut [u8]) -> io::Result<()> {
-    begin(rt, s, b"1, 2u(1), 3u(2), 4u(2), 5(3)")?;
-    put(s, 2, 2, b"1");
-    put(s, 3, 2, b"2");
-    put(s, 4, 2, b"2");
-    put(s, 5, 1, b"3");
-    walks(rt, s, b"45")
+    begin(rt, s, "1, 2u(1), 3u(2), 4u(2), 5(3)")?;
+    put(s, 2, Update, "1");
+    put(s, 3, Update, "2");
+    put(s, 4, Update, "2");
+    put(s, 5, Remove, "3");
+    walks(rt, s, "45")
 }
 
 fn main(rt: HostRuntime) -> io::Result<()> {
     let mut s = [0u8; 50240];
-    admission::fresh(&mut s);
-    walks(&rt, &s, b"1")?;
+    fresh(&mut s);
+    walks(&rt, &s, "1")?;
     graph_with_skip(&rt, &mut s)?;
     graph_with_span(&rt, &mut s)?;
     graph_k(&rt, &mut s)?;

@@ -1,22 +1,25 @@
 -- `admission::add_op` meets its contract.
-use Rattle.admission.proofs.Adding.{adds_refused, adds_known, add_room, add_few, add_offer, adds_new}
-use Rattle.store.proofs.Ops.{sound_laid}
-use mathlib.Core.Path.{refl}
 use native.Mathlib.Omega.{arith}
+use Rattle.admission.proofs.Adding.{add_room, add_whole, adds_new}
+use Rattle.store.proofs.Ops.{sound_laid}
+use lib.ListN.{length-take}
+use Rattle.rules.proofs.Bytes.{fit_bytes}
+use mathlib.Core.Path.{refl}
 use Rattle.admission.proofs.add_op.Goals as goal
 
-pub returns-then-tried-ne0 : goal.returns-then-tried-ne0
-returns-then-tried-ne0 c = adds_refused c.if-tried-ne0.true c.trial-tried.ensures.0
+pub invariant_of-operation : goal.invariant_of-operation
+invariant_of-operation c =
+    let T = rw c.in-Some.is at c.in_ok-tried.ensures in
+    let w = add_whole T.0 in
+    record { whole = (omega (arith, w.0), omega (arith, w.1), omega (arith, c.in-Some.tried.few, length-take c.in-Some.tried.slots c.trial.new.work.places)) }
 
-pub returns-then-tried : goal.returns-then-tried
-returns-then-tried c = adds_known (rw (c.if-tried-ne0.false, c.if-tried.true) at c.trial-tried.ensures.0)
+pub append-requires-clause-laid : goal.append-requires-clause-laid
+append-requires-clause-laid c = let T = rw c.in-Some.is at c.in_ok-tried.ensures in sound_laid (T.0.sound refl)
 
-pub append-requires : goal.append-requires
-append-requires c =
-    let T = rw (c.if-tried-ne0.false, c.if-tried.false) at c.trial-tried.ensures.0 in
-    record { ops_bound = (omega arith, omega arith, add_few T); laid = sound_laid (T.sound refl); s_bound = add_room T; offer = add_offer T (omega arith) }
+pub append-requires-clause-room : goal.append-requires-clause-room
+append-requires-clause-room c = let T = rw c.in-Some.is at c.in_ok-tried.ensures in add_room T.0
 
 pub returns : goal.returns
 returns c =
-    adds_new (rw (c.if-tried-ne0.false, c.if-tried.false) at c.trial-tried.ensures.0) (record { small = λ j. omega (arith, c.shared_slice_known-1.given j) })
-    (record { small = λ j. omega (arith, c.shared_slice_known-2-1.given j) }) c.append.ensures
+    let T = rw c.in-Some.is at c.in_ok-tried.ensures in
+    adds_new T.0 (omega arith) (fit_bytes c.type_inv.digest) (fit_bytes c.type_inv.member) c.append.ensures

@@ -1,31 +1,18 @@
 -- `admission::offer` meets its contract.
-use Prim.Native.Nat.{ℕ}
 use native.Mathlib.Omega.{arith}
-use mathlib.Core.Path.{◌≡◌}
-use mathlib.Core.List.{List}
-use Rattle.rules.specs.First.{First}
-use Rattle.rules.proofs.Answers.{first_none}
-use Rattle.rules.proofs.First.{None}
-use Rattle.walk.proofs.Painting.{large_ready}
-use Rattle.walk.proofs.Places.{looked_held, looked_unheld}
-use Rattle.admission.specs.Offers.{input_refusals}
-use Rattle.admission.proofs.Offering.{offers_refused, offers_known, offers_new}
+use Rattle.rules.proofs.Answers.{says_yes, says_no}
+use Rattle.walk.proofs.Painting.{graph_large}
+use Rattle.admission.proofs.Offering.{fits_rootless, fits_lacking, fits_full, fits_done}
 use Rattle.admission.proofs.offer.Goals as goal
 
--- the number 0 says that nothing refuses the input
-input_passed : {s d m l : List ℕ} {k n : ℕ} → n ≡ 0 → First (input_refusals s d k m l) n → None (input_refusals s d k m l)
-input_passed e f = first_none _ 0 (omega arith) (rw e at f)
+pub returns-then-rootless : goal.returns-then-rootless
+returns-then-rootless c = fits_rootless (says_yes _ c.rootless.ensures c.if-rootless.true)
 
-pub returns-then-refused-ne0 : goal.returns-then-refused-ne0
-returns-then-refused-ne0 c = offers_refused c.if-refused-ne0.true c.input_refusal-refused.ensures.number
+pub returns-in_default : goal.returns-in_default
+returns-in_default c = fits_lacking (graph_large c.args.graph) (says_no _ c.rootless.ensures c.if-rootless.false) (rw c.count-n.ensures.0 at c.in_default.ensures)
 
-pub returns-in-Nothing : goal.returns-in-Nothing
-returns-in-Nothing c =
-    let good = c.input_refusal-refused.ensures.passed c.if-refused-ne0.false in
-    let F = c.offer_new.ensures in
-    rw F.1 (offers_new (input_passed c.if-refused-ne0.false c.input_refusal-refused.ensures.number) good.0 (looked_unheld (large_ready good.0) c.place_of.result _ c.place_of.ensures c.in-Nothing.is) F.0)
+pub returns-then-n : goal.returns-then-n
+returns-then-n c = fits_full (graph_large c.args.graph) (says_no _ c.rootless.ensures c.if-rootless.false) (rw c.count-n.ensures.0 at c.in-Some.ensures) (omega arith)
 
 pub returns : goal.returns
-returns c =
-    let S = (c.input_refusal-refused.ensures.passed c.if-refused-ne0.false).0 in
-    offers_known (input_passed c.if-refused-ne0.false c.input_refusal-refused.ensures.number) S (looked_held (large_ready S) c.place_of.result _ _ c.place_of.ensures c.in_default.is)
+returns c = fits_done (graph_large c.args.graph) (says_no _ c.rootless.ensures c.if-rootless.false) (rw c.count-n.ensures.0 at c.in-Some.ensures) (omega arith)

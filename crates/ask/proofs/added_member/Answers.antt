@@ -1,32 +1,41 @@
 -- `ask::added_member` meets its contract.
-use Prim.Native.Nat.{◌+◌, ◌*◌}
 use native.Mathlib.Omega.{arith}
-use mathlib.Core.Path.{sym, ◌∙◌}
-use Rattle.walk.proofs.Painting.{large_ready, ready_size}
-use Rattle.walk.proofs.Places.{looked_unheld}
-use Rattle.ask.proofs.Answers.{digest_passed, added_here, added_kind, added_member, parted_none, parted_refused, parted_some}
+use mathlib.Core.Path.{◌≡◌, ◌∙◌}
+use mathlib.Core.Bool.{false}
+use denote.Enum.Bare.{sameb}
+use Rattle.rules.specs.Numbers.{kind_code}
+use Rattle.rules.specs.contracts.Kind.{the_type}
+use Rattle.rules.specs.declared.Kind.{Kind}
+use Rattle.rules.specs.declared.Kind.TheVariants.{Add}
+use Rattle.refusal.proofs.Graphs.{unheld}
 use Rattle.refusal.proofs.Refusals.{digest_room}
+use Rattle.store.specs.Layout.{kind_at}
+use Rattle.ask.proofs.Answers.{added_here, added_kind, added_member, parted_none, parted_refused, parted_some}
 use Rattle.ask.proofs.added_member.Goals as goal
-use Rattle.ask.proofs.added_member.Goals.{in-At+else-kind_at-eq0, in_default}
+use Rattle.ask.proofs.added_member.Goals.{in_default-place_of-via-in-Some+else-eq, in_default-place_of-via-in_default-place_of}
 
-pub returns-then-of_digest-ne0 : goal.returns-then-of_digest-ne0
-returns-then-of_digest-ne0 c = parted_refused c.if-of_digest-ne0.true c.of_digest.ensures.number
+-- a kind that isn't that of an add
+other_kind : (k : Kind) → false ≡ sameb the_type k Add → ¬ (kind_code k ≡ 0)
+other_kind k e z = grind arith
 
-pub place_of-requires-clause-in_bounds : goal.place_of-requires-clause-in_bounds
-place_of-requires-clause-in_bounds c = digest_room _ c.of_digest.ensures c.if-of_digest-ne0.false
+pub returns-in_default : goal.returns-in_default
+returns-in_default c = parted_refused _ c.in_default.ensures.number
 
-pub returns-then-kind_at-eq0 : goal.returns-then-kind_at-eq0
-returns-then-kind_at-eq0 c =
-    let e = digest_passed _ _ c.of_digest.ensures c.if-of_digest-ne0.false in
-    let p = c.in-At.ensures in
-    let i = c.in-At.i in
-    parted_some c.args.store.now (96 + 98 * i) (128 + 98 * i) e.done (omega (arith, ready_size e.ready i p.0)) (omega arith) (added_here e.ready p.0 p.1 (sym c.kind_at.ensures ∙ c.if-kind_at-eq0.true)) (λ x a. added_member e.ready p.0 p.1 a)
+pub place_of-requires : goal.place_of-requires
+place_of-requires c = digest_room _ _ c.in-Ok.ensures.number
 
-pub returns : goal.returns
-returns c =
-    let R = large_ready (c.of_digest.ensures.passed c.if-of_digest-ne0.false) in
+pub returns-in-Some : goal.returns-in-Some
+returns-in-Some c =
+    let t = c.in-Ok.ensures in
+    let p = c.in-Some.ensures in
+    let k : kind_at c.in-Ok.graph.bytes.now c.in-Some.i ≡ 0 = grind arith in
+    parted_some t.number (rw t.passed.bytes at c.member_at.ensures) (added_here t.passed p.0 p.1 k) (λ x a. added_member t.passed p.0 p.1 a)
+
+pub returns-in_default-place_of : goal.returns-in_default-place_of
+returns-in_default-place_of c =
+    let t = c.in-Ok.ensures in
     parted_none
-    (λ f x a. elim c.match-place_of.branch [
-      | in-At+else-kind_at-eq0 w ↦ w.if-kind_at-eq0.false (w.kind_at.ensures ∙ added_kind R w.in-At.ensures.0 w.in-At.ensures.1 a)
-      | in_default w ↦ looked_unheld R c.place_of.result _ c.place_of.ensures w.in_default.is a.held
+    (λ f x a. elim c.in_default-place_of.branch [
+      | in_default-place_of-via-in-Some+else-eq w ↦ other_kind w.kind.result w.if-eq.ensures (w.kind.ensures ∙ added_kind t.passed w.in-Some.ensures.0 w.in-Some.ensures.1 a)
+      | in_default-place_of-via-in_default-place_of w ↦ unheld t.passed w.in_default-place_of.ensures a.held
     ])

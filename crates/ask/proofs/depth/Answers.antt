@@ -1,26 +1,21 @@
 -- `ask::depth` meets its contract.
 use native.Mathlib.Omega.{arith}
 use Rattle.rules.proofs.Answers.{valued_refused, valued_done}
-use Rattle.refusal.proofs.Refusals.{digest_room, held_refused, held_lacking, held_done}
-use Rattle.walk.proofs.Painting.{large_ready}
-use Rattle.walk.proofs.Places.{looked_held, looked_unheld}
-use Rattle.ask.proofs.Answers.{digest_passed}
+use Rattle.refusal.proofs.Graphs.{held, unheld}
+use Rattle.refusal.proofs.Refusals.{refuses_value, digest_room, held_refused, held_lacking, held_done}
 use Rattle.ask.proofs.depth.Goals as goal
 
-pub returns-then-refused-ne0 : goal.returns-then-refused-ne0
-returns-then-refused-ne0 c = valued_refused c.if-refused-ne0.true (held_refused _ _ c.if-refused-ne0.true c.of_digest-refused.ensures.number)
+pub returns-in_err-graph : goal.returns-in_err-graph
+returns-in_err-graph c = refuses_value _ _ c.from_residual.ensures.1 (held_refused _ _ _ c.in_err-graph.ensures.number)
 
-pub place_of-requires-clause-in_bounds : goal.place_of-requires-clause-in_bounds
-place_of-requires-clause-in_bounds c = digest_room _ c.of_digest-refused.ensures c.if-refused-ne0.false
+pub place_of-requires : goal.place_of-requires
+place_of-requires c = digest_room _ _ c.in_ok-graph.ensures.number
 
-pub bounds-depths-i : goal.bounds-depths-i
-bounds-depths-i c = omega (arith, c.in-At.ensures, (large_ready (c.of_digest-refused.ensures.passed c.if-refused-ne0.false)).enough)
-
-pub returns-in-At : goal.returns-in-At
-returns-in-At c =
-    let e = digest_passed _ _ c.of_digest-refused.ensures c.if-refused-ne0.false in
-    let p = c.in-At.ensures in
-    valued_done (held_done _ _ e.none (looked_held e.ready c.place_of.result _ _ c.place_of.ensures c.in-At.is)) (rw (← p.1) (c.depths.ensures.each _ p.0))
+pub returns-in_default : goal.returns-in_default
+returns-in_default c = let t = c.in_ok-graph.ensures in valued_refused (omega arith) (held_lacking _ _ t.number (unheld t.passed c.in_default.ensures))
 
 pub returns : goal.returns
-returns c = let e = digest_passed _ _ c.of_digest-refused.ensures c.if-refused-ne0.false in valued_refused (λ z. omega arith) (held_lacking _ _ e.none (looked_unheld e.ready c.place_of.result _ c.place_of.ensures c.in_default.is))
+returns c =
+    let t = c.in_ok-graph.ensures in
+    let place = c.in-Some.ensures in
+    valued_done (held_done _ _ t.number (held t.passed place.0 place.1)) (rw c.from.ensures (rw (place.1, t.passed.bytes) at (c.depths.ensures.each _ place.0)))

@@ -1,12 +1,12 @@
 -- `ask::has_single_head` meets its contract.
 use native.Mathlib.Omega.{arith}
-use Rattle.walk.proofs.Painting.{large_ready}
-use Rattle.ask.proofs.Answers.{answered_passed}
-use Rattle.ask.proofs.Marks.{single_told}
+use Rattle.rules.proofs.Answers.{answered_done}
+use Rattle.walk.proofs.Painting.{graph_large}
+use Rattle.ask.proofs.Marks.{front_says, single_told}
 use Rattle.ask.proofs.has_single_head.Goals as goal
 
-pub one_mark-requires : goal.one_mark-requires
-one_mark-requires c = omega (arith, c.count.ensures.0, (large_ready (c.of_store-refused.ensures.passed c.if-refused-ne0.false)).enough)
-
 pub returns : goal.returns
-returns c = answered_passed c.of_store-refused.ensures c.if-refused-ne0.false (λ S. single_told (large_ready S) c.mark_heads.ensures c.one_mark.result (rw c.count.ensures.0 at c.one_mark.ensures))
+returns c =
+    let t = c.in_ok-graph.ensures in
+    let one = rw c.count.ensures.0 at (front_says c.mark_heads.new.marks c.count.result c.one_mark.result (omega arith) c.one_mark.ensures) in
+    answered_done t.number (rw t.passed.bytes at (single_told (graph_large c.in_ok-graph.graph) c.mark_heads.ensures c.one_mark.result one))

@@ -1,33 +1,21 @@
 -- `lists::children_of` meets its contract.
 use native.Mathlib.Omega.{arith}
-use Rattle.rules.proofs.Answers.{listed_refused}
-use Rattle.store.proofs.Tests.{looked_at}
-use Rattle.walk.proofs.Painting.{large_ready}
-use Rattle.lists.proofs.Lists.{tested_listed, childless}
-use Rattle.refusal.proofs.Refusals.{digest_room}
+use Rattle.rules.specs.Bytes.{digest_of}
+use Rattle.rules.specs.Graph.{Child}
+use Rattle.refusal.proofs.Refusals.{refuses_list, digest_room}
+use Rattle.lists.proofs.Lists.{marks_listed, childless}
 use Rattle.lists.proofs.children_of.Goals as goal
 
-pub returns-then-refused-ne0 : goal.returns-then-refused-ne0
-returns-then-refused-ne0 c = listed_refused c.if-refused-ne0.true c.of_digest-refused.ensures.number
+pub returns-in_err-graph : goal.returns-in_err-graph
+returns-in_err-graph c = refuses_list _ _ c.from_residual.ensures.1 c.in_err-graph.ensures.number
 
-pub place_of-requires-clause-in_bounds : goal.place_of-requires-clause-in_bounds
-place_of-requires-clause-in_bounds c = digest_room c.args.digest.now c.of_digest-refused.ensures c.if-refused-ne0.false
+pub place_of-requires : goal.place_of-requires
+place_of-requires c = digest_room _ _ c.in_ok-graph.ensures.number
 
-pub write_set-requires : goal.write_set-requires
-write_set-requires c =
-    let R = large_ready (c.of_digest-refused.ensures.passed c.if-refused-ne0.false) in
-    record { ready = rw c.children.ensures.size R; s_in_bounds = R.enough }
-
-pub returns-in-At : goal.returns-in-At
-returns-in-At c =
-    let place = looked_at c.place_of.result _ _ _ _ c.place_of.ensures c.in-At.is in
-    tested_listed
-    (omega arith)
-    c.of_digest-refused.ensures
-    c.if-refused-ne0.false
-    (rw place.1 at c.children.ensures.tells)
-    (λ x p. record { op = p.op; stands = p.stands; named = p.named })
-    c.write_set.ensures
+pub returns-in_default : goal.returns-in_default
+returns-in_default c = childless (omega arith) c.in_ok-graph.ensures c.in_default.ensures
 
 pub returns : goal.returns
-returns c = childless (omega arith) c.of_digest-refused.ensures c.if-refused-ne0.false c.place_of.result _ c.place_of.ensures c.in_default.is
+returns c =
+    let place = c.in-Some.ensures in
+    marks_listed (λ G. Child G (digest_of c.args.digest.now)) (omega arith) c.in_ok-graph.ensures (rw place.1 at c.children.ensures.tells) (λ x p. record { op = p.op; stands = p.stands; named = p.named }) c.write_set.ensures

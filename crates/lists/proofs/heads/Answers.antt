@@ -1,17 +1,12 @@
 -- `lists::heads` meets its contract.
 use native.Mathlib.Omega.{arith}
-use Rattle.rules.proofs.Answers.{listed_refused}
-use Rattle.walk.proofs.Painting.{large_ready}
-use Rattle.lists.proofs.Lists.{tested_listed}
+use Rattle.rules.specs.Graph.{Head}
+use Rattle.refusal.proofs.Refusals.{refuses_list}
+use Rattle.lists.proofs.Lists.{marks_listed}
 use Rattle.lists.proofs.heads.Goals as goal
 
-pub returns-then-refused-ne0 : goal.returns-then-refused-ne0
-returns-then-refused-ne0 c = listed_refused c.if-refused-ne0.true c.of_store-refused.ensures.number
-
-pub write_set-requires : goal.write_set-requires
-write_set-requires c =
-    let R = large_ready (c.of_store-refused.ensures.passed c.if-refused-ne0.false) in
-    record { ready = rw c.mark_heads.ensures.size R; s_in_bounds = R.enough }
+pub returns-in_err-graph : goal.returns-in_err-graph
+returns-in_err-graph c = refuses_list _ _ c.from_residual.ensures.1 c.in_err-graph.ensures.number
 
 pub returns : goal.returns
-returns c = tested_listed (omega arith) c.of_store-refused.ensures c.if-refused-ne0.false c.mark_heads.ensures.tells (λ x p. p.held) c.write_set.ensures
+returns c = marks_listed Head (omega arith) c.in_ok-graph.ensures c.mark_heads.ensures.tells (λ x p. p.held) c.write_set.ensures

@@ -1,28 +1,31 @@
-use Rattle.merging.proofs.Comparing.{clash_at, agrees_none, agrees_has, agrees_lacks}
-use Rattle.walk.proofs.Places.{looked_unheld}
-use Rattle.walk.proofs.Painting.{ready_size, ready_room}
-use Rattle.store.proofs.Tests.{looked_at}
-use Rattle.rules.proofs.Answers.{says_yes, says_no}
 use native.Mathlib.Omega.{arith}
+use mathlib.Core.Path.{refl}
+use Rattle.rules.proofs.Answers.{says_yes, says_no}
+use Rattle.store.proofs.Tests.{looked_at}
+use Rattle.walk.proofs.Painting.{graph_large, graph_ready}
+use Rattle.walk.proofs.Places.{looked_unheld}
+use Rattle.merging.proofs.Comparing.{agrees_none, agrees_has, agrees_lacks, clash_at}
 use Rattle.merging.proofs.compare_all.Goals as goal
+use Rattle.merging.proofs.compare_all.Goals.{in-Some+else-not-same_op, in-None}
 
 pub loop-i-init : goal.loop-i-init
-loop-i-init c = (omega arith, agrees_none _ _ _)
+loop-i-init c = agrees_none _ _ _
 
-pub look_up-requires : goal.look_up-requires
-look_up-requires c = (omega (arith, c.count-n.ensures.0, ready_room c.requires.0), omega (arith, ready_size c.requires.1 c.loop-i.i (omega (arith, c.count-m.ensures.0))))
-
-pub loop-i-preserved-then-same_op : goal.loop-i-preserved-then-same_op
-loop-i-preserved-then-same_op c =
-    let place = looked_at c.look_up.result _ _ _ _ (rw c.count-n.ensures.0 at c.look_up.ensures) c.in-At.is in
-    (omega arith, agrees_has c.requires.0 (omega (arith, c.loop-i.invariant.1.placed.size, c.requires.1.enough)) c.loop-i.invariant.1 c.in-At.p place.0 (says_yes c.same_op.result c.same_op.ensures c.if-same_op.true))
-
-pub returns-else-same_op : goal.returns-else-same_op
-returns-else-same_op c =
+pub returns-then-not-same_op : goal.returns-then-not-same_op
+returns-then-not-same_op c =
+    let looked = rw (c.count.ensures.0, c.digest_at.ensures.1) at c.look_up.ensures in
     let l = c.loop-i in (
-      clash_at c.requires.0 c.requires.1 (omega (arith, c.count-m.ensures.0)) (looked_at c.look_up.result _ _ _ _ (rw c.count-n.ensures.0 at c.look_up.ensures) c.in-At.is) (says_no c.same_op.result c.same_op.ensures c.if-same_op.false),
-      (l.i, l.lacking, l.invariant.1),
+      refl,
+      clash_at (graph_large c.args.s) (graph_ready c.args.o c.requires) (omega (arith, c.count-i-end.ensures.0)) (looked_at c.look_up.result _ _ _ _ looked c.in-Some.is) (says_no c.same_op.result c.same_op.ensures c.if-not-same_op.true),
+      (l.i, l.lacking, l.invariant),
     )
 
 pub loop-i-preserved : goal.loop-i-preserved
-loop-i-preserved c = (omega arith, agrees_lacks c.requires.0 (omega (arith, c.loop-i.invariant.1.placed.size, c.requires.1.enough)) c.loop-i.invariant.1 (looked_unheld c.requires.0 c.look_up.result _ (rw c.count-n.ensures.0 at c.look_up.ensures) c.in-Nothing.is))
+loop-i-preserved c =
+    let looked = rw (c.count.ensures.0, c.digest_at.ensures.1) at c.look_up.ensures in
+    let S = graph_large c.args.s in
+    let A = c.loop-i.invariant in
+    elim c.match-look_up.branch [
+      | in-Some+else-not-same_op w ↦ rw (w.places-is, w.lacking-is) (agrees_has S (omega (arith, A.placed.size, c.requires)) A w.in-Some.p (looked_at c.look_up.result _ _ _ _ looked w.in-Some.is).0 (says_yes w.same_op.result w.same_op.ensures w.if-not-same_op.false))
+      | in-None w ↦ rw (w.places-is, w.lacking-is) (agrees_lacks S (omega (arith, A.placed.size, c.requires)) A (looked_unheld S c.look_up.result _ looked w.in-None.is))
+    ]

@@ -1,13 +1,14 @@
 -- `refusal::of_list` meets its contract.
-use Rattle.rules.proofs.First.{first_here, first_next}
 use native.Mathlib.Omega.{arith}
+use Rattle.rules.proofs.First.{first_here, first_next}
+use Rattle.refusal.proofs.Refusals.{tested_refused, tested_next}
 use Rattle.refusal.proofs.of_list.Goals as goal
 
 pub returns-then-list-ne0 : goal.returns-then-list-ne0
-returns-then-list-ne0 c = record { number = first_here _ _ _ c.if-list-ne0.true; passed = λ e. absurd (omega arith) }
+returns-then-list-ne0 c = tested_refused (first_here _ _ _ c.if-list-ne0.true)
 
 pub returns-then-list-gt512 : goal.returns-then-list-gt512
-returns-then-list-gt512 c = record { number = first_next _ _ _ _ (λ n. n c.if-list-ne0.false) (first_here _ _ _ c.if-list-gt512.true); passed = λ e. absurd (omega arith) }
+returns-then-list-gt512 c = tested_refused (first_next _ _ _ _ (λ n. n c.if-list-ne0.false) (first_here _ _ _ c.if-list-gt512.true))
 
 pub returns : goal.returns
-returns c = record { number = first_next _ _ _ _ (λ n. n c.if-list-ne0.false) (first_next _ _ _ _ (λ n. omega (arith, n, c.if-list-gt512.false)) c.of_store.ensures.number); passed = c.of_store.ensures.passed }
+returns c = tested_next (λ n. n c.if-list-ne0.false) (tested_next (λ n. omega (arith, n, c.if-list-gt512.false)) c.of_store.ensures)

@@ -1,12 +1,8 @@
 -- `walk::mark_listed` meets its contract. The loop's invariant: the first k places that record i lists have the mark.
-use Prim.Native.Nat.{◌-◌, ◌≤◌}
 use Rattle.store.specs.Layout.{pred_at}
 use Rattle.walk.specs.Marks.{Painted}
 use Rattle.walk.specs.Passes.{OneOf}
 use Rattle.walk.proofs.mark_listed.Given as goal
 
 abbrev pub invariant-loop-k : goal.invariant-loop-k
-invariant-loop-k l = (l.k ≤ l.c) × Painted (OneOf (pred_at l.s l.i) l.k) l.v l.initial.marks l.marks
-
-abbrev pub decreases-loop-k : goal.decreases-loop-k
-decreases-loop-k l = l.c - l.k
+invariant-loop-k l = Painted (OneOf (pred_at l.graph.bytes.now l.i) l.k) l.v l.initial.marks l.marks

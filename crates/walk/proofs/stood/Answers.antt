@@ -1,16 +1,15 @@
-use native.Mathlib.Omega.{arith}
-use borrow.Author.Count.{below_more}
-use Rattle.digest.proofs.Orders.{stands_apart, stands_equal}
+-- `walk::stood` meets its contract.
+use mathlib.Core.Path.{◌≡◌}
+use Rattle.std.proofs.Common.{rules}
+use Rattle.rules.proofs.Answers.{says_yes, says_no, says_same}
+use Rattle.rules.proofs.Ranges.{says_any}
+use Rattle.digest.specs.Lists.{nth}
 use Rattle.walk.proofs.stood.Goals as goal
 
-pub loop-j-init : goal.loop-j-init
-loop-j-init c = (omega arith, λ x h. absurd (omega arith))
-
-pub returns-in-Equal : goal.returns-in-Equal
-returns-in-Equal c = record { place = c.loop-j.j; within = omega arith; there = stands_equal c.compare.result c.compare.ensures c.in-Equal.is }
-
-pub loop-j-preserved : goal.loop-j-preserved
-loop-j-preserved c = (omega arith, below_more _ _ c.loop-j.invariant.1 (stands_apart c.compare.result c.compare.ensures c.in_default.not-Equal))
-
 pub returns : goal.returns
-returns c = λ x. c.loop-j.invariant.1 x.place (omega (arith, x.within)) x.there
+returns c =
+    let l = c.args.list.now in
+    says_same c.any.result
+    (λ x. record { place = x.0; within = x.1; there = x.2 })
+    (λ x. (x.place, x.within, x.there))
+    (says_any (λ j. nth l j ≡ nth l c.args.k) c.args.k _ _ _ c.any.ensures.ran (λ x q k. search (rules, says_yes, says_no)) (λ x q k. search (rules, says_yes, says_no)))
