@@ -2,17 +2,16 @@
 -- Assumes nothing.
 use Prim.Native.Nat.{ℕ, ◌/◌, ◌≤◌, ◌<◌}
 use native.Mathlib.Omega.{arith}
-use native.Mathlib.Decide.{ℕ_discrete}
-use mathlib.Core.Path.{◌≡◌, refl, sym, subst}
-use mathlib.Core.Bool.{false, true≢false}
-use mathlib.Core.Logic.{⊎_elim}
+use mathlib.Core.Path.{◌≡◌, refl, sym, ◌∙◌, subst}
+use mathlib.Core.Bool.{Bool, true, false, true≢false}
+use mathlib.Core.Logic.{◌⊎◌, ⊎_elim}
 use mathlib.Core.List.{List, [], ◌∷◌}
 use lib.ListN.{length, take}
 use Rattle.rules.specs.Admission.{AsOffered, NewlyChainable, MadeChainable, Admits, admission_refusals, add_op_refusals}
 use Rattle.rules.specs.Answers.{NoRoom}
 use Rattle.rules.specs.Bytes.{Bytes, digest_of}
 use Rattle.rules.specs.Graph.{Op, Held}
-use Rattle.rules.specs.Table.{limits, Shaped}
+use Rattle.rules.specs.Table.{limits}
 use Rattle.rules.proofs.Admission.{as_offered_unique, new_admits, offered_admissible, offered_few, offered_room}
 use Rattle.rules.proofs.First.{None, first_clear}
 use Rattle.rules.proofs.Lists.{set_same}
@@ -29,6 +28,19 @@ use Rattle.admission.specs.Offers.{Tries}
 use Rattle.admission.proofs.Trying.{set_offered}
 
 module _ {s d m l p q o t : List ℕ} {k : ℕ} where
+  -- a trial that refuses, or finds the digest known, is all of the admission
+  pub adds_nothing : {n c u : ℕ} {b : Bool} → Tries s d k m l p q o t n b c u → (¬ (n ≡ 0)) ⊎ (b ≡ true) → AddsOp s d k m l o s t n b u
+  adds_nothing T x =
+      record {
+        updates = T.us;
+        admits = record { number = T.number; known = T.known; new = λ z f. absurd (⊎_elim (λ n. n z) (λ e. true≢false (sym e ∙ f)) x); same = λ y. (refl, T.none y) };
+        counted = T.counted;
+        put = T.put;
+        untouched = λ y. refl;
+        sound = T.sound;
+        admitted = λ z f. absurd (⊎_elim (λ n. n z) (λ e. true≢false (sym e ∙ f)) x);
+      }
+
   module _ {c u : ℕ} (T : Tries s d k m l p q o t 0 false c u) where
     unheld : ¬ Held (ops_of s) (digest_of d)
     unheld h = T.known (refl, h)
@@ -36,22 +48,12 @@ module _ {s d m l p q o t : List ℕ} {k : ℕ} where
     none : None (admission_refusals limits (Damaged s) (ops_of s) d k m l)
     none = first_clear (admission_refusals limits (Damaged s) (ops_of s) d k m l) ((9, NoRoom (NewlyChainable (ops_of s) d k m l) o) ∷ []) (search unheld) T.number
 
-    shape : {x y : ℕ} → (Shaped d k m l → x ≡ y) → x ≡ y
-    shape {x} {y} f = go (ℕ_discrete x y)
-      where
-        go : Dec (x ≡ y) → x ≡ y
-        go (yes e) = e
-        go (no n) = absurd (none.0 (λ S. n (f S)))
-
     slots : Gathering s (count_of s) l p q (length l / 32) c
     slots = T.gathered refl refl
 
-    -- there is room, and the places are those of an operation
+    -- there is room
     pub add_room : count_of s < 512
     add_room = omega (arith, none.1.1.1.1.1.1.0, ops_length s)
-
-    pub add_whole : (length d ≡ 32) × (length m ≡ 32)
-    add_whole = (shape (λ S. S.digest), shape (λ S. S.member))
 
     add_few : c ≤ 16
     add_few = omega (arith, slots.slots.few, none.1.0)

@@ -6,7 +6,7 @@ use mathlib.Core.Path.{◌≡◌, refl, sym, subst}
 use mathlib.Core.Bool.{true, false, true≢false}
 use mathlib.Core.Logic.{◌↔◌, ⊎_elim}
 use mathlib.Core.List.{List, [], ◌∷◌}
-use lib.ListN.{length, take}
+use lib.ListN.{length}
 use Rattle.std.specs.Prelude.{Result, Ok, Option, IsErrAnd}
 use Rattle.rules.specs.Admission.{AsOffered, Admissible, MadeChainable, NewlyChainable, admission_refusals}
 use Rattle.rules.specs.Answers.{NoRoom, Listed}
@@ -16,7 +16,8 @@ use Rattle.rules.specs.Graph.{Op, Held}
 use Rattle.rules.specs.Lists.{◌∈◌, SetOf}
 use Rattle.rules.specs.Numbers.{code, number_of}
 use Rattle.rules.specs.declared.Refusal.{Refusal}
-use Rattle.rules.specs.Table.{limits}
+use Rattle.rules.specs.Small.{store_refusals}
+use Rattle.rules.specs.Table.{limits, Shaped}
 use Rattle.rules.proofs.Admission.{as_offered_unique, offered_admissible}
 use Rattle.rules.proofs.Answers.{first_none, put_nothing, no_room_same}
 use Rattle.rules.proofs.Chainable.{not_chainable, made_nearest, nearest_made}
@@ -29,11 +30,10 @@ use Rattle.store.specs.Sound.{Sound}
 use Rattle.store.proofs.Ops.{sound_formed}
 use Rattle.store.proofs.Slots.{slotted_set}
 use Rattle.order.specs.Sorted.{digests_at}
-use Rattle.order.proofs.Sorting.{digests_front}
 use Rattle.refusal.specs.Damage.{Damaged, Tested}
 use Rattle.admission.specs.Marks.{Made, Worked}
 use Rattle.rules.proofs.Numbers.{code_some}
-use Rattle.refusal.proofs.Refusals.{handed_on}
+use Rattle.refusal.proofs.Refusals.{handed_on, tested_next}
 use Rattle.admission.specs.Offers.{input_refusals, new_refusals, known_of, Begun, Fits, slots_of, listed_of, Tries, WorkedFor}
 use Rattle.admission.specs.declared.tried.Tried.{Tried}
 use Rattle.admission.proofs.Offering.{begun_none}
@@ -43,7 +43,7 @@ pub set_offered : {l ds : List ℕ} (d : List ℕ) (k : ℕ) (m : List ℕ) → 
 set_offered d k m D = record { digest = refl; kind = refl; member = refl; preds = D }
 
 module _ {s d m l p q : List ℕ} {k : ℕ} where
-  tries : {o : List ℕ} (e : Refusal) → First (admission_refusals limits (Damaged s) (ops_of s) d k m l) (code e) → Begun s l p q → Tries s d k m l p q o o (code e) false 0 0
+  pub tries : {o : List ℕ} (e : Refusal) → First (admission_refusals limits (Damaged s) (ops_of s) d k m l) (code e) → Begun s l p q → Tries s d k m l p q o o (code e) false 0 0
   tries {o} e f b =
       record {
         number = first_stays (admission_refusals limits (Damaged s) (ops_of s) d k m l) ((9, NoRoom (NewlyChainable (ops_of s) d k m l) o) ∷ []) (code e) (code_some e) f;
@@ -65,6 +65,10 @@ module _ {s d m l p q : List ℕ} {k : ℕ} where
 -- the arguments or the store are
 pub refused_input : {s d m l p w h z o : List ℕ} {k : ℕ} (e : Refusal) (r : Result (Option Tried) Refusal) → IsErrAnd r (λ y. y ≡ e) → First (input_refusals s d k m l) (code e) → Tries s d k m l p p o o (number_of r) (known_of r) (slots_of r) (listed_of r) × WorkedFor s d k m l (known_of r) w w h h z z
 refused_input {s} {d} {m} {l} {p} {k = k} e r x f = refused e r x (first_stays (input_refusals s d k m l) ((0, Held (ops_of s) (digest_of d)) ∷ new_refusals s k l) (code e) (code_some e) f) (begun_none s l p)
+
+-- an offer of the right shape is refused by the store alone
+pub shaped_input : {A : Type 0} {P : A → Type 0} {s d m l : List ℕ} {k : ℕ} {r : Result A Refusal} → Shaped d k m l × (length l / 32 ≤ 16) → Tested (store_refusals (Damaged s)) P r → Tested (input_refusals s d k m l) P r
+shaped_input S t = tested_next (λ n. n S.0) (tested_next (λ n. omega (arith, n, S.1)) t)
 
 -- the arguments and the store are not refused
 module _ {A : Type 0} {P : A → Type 0} {x : A} {s d m l : List ℕ} {k : ℕ} (T : Tested (input_refusals s d k m l) P (Ok x)) (S : Sound limits s) where
@@ -105,10 +109,6 @@ module _ {A : Type 0} {P : A → Type 0} {x : A} {s d m l : List ℕ} {k : ℕ} 
 
       slots : Gathering s (count_of s) l p q (length l / 32) c
       slots = F.gathered refl
-
-      -- the list is written from the places in front
-      front : 16 ≤ length p → digests_at s (take c q) (length (take c q)) ≡ digests_at s q c
-      front h = digests_front s q c (omega (arith, none.1.0, slots.slots.few, slots.size))
 
       worked_new : {w w' h h' z z' : List ℕ} → Worked s (digests_at s q c) k w w' h h' z z' → WorkedFor s d k m l false w w' h h' z z'
       worked_new {w} {w'} {h} {h'} {z} {z'} W = record { new = λ f e xs D. subst (λ x. Worked s x k w w' h h' z z') (set_unique (slotted_set slots.slots) D) W; other = ⊎_elim (λ n. absurd (n number)) (λ e. absurd (true≢false (sym e))) }
@@ -157,9 +157,9 @@ module _ {A : Type 0} {P : A → Type 0} {x : A} {s d m l : List ℕ} {k : ℕ} 
             }
 
         -- the list is written, or there is no room for it
-        module _ {o t w w' h h' z z' : List ℕ} (room : 16 ≤ length p) (W : Worked s (digests_at s (take c q) (length (take c q))) k w w' h h' z z') where
-          pub written : {u : ℕ} → Listed [] (Made s (digests_at s (take c q) (length (take c q))) k) o t 0 u → Tries s d k m l p q o t 0 false c u × WorkedFor s d k m l false w w' h h' z z'
-          written L = (tries_new (rw (front room) at L) (λ e. slots), worked_new (rw (front room) at W))
+        module _ {o t w w' h h' z z' : List ℕ} (W : Worked s (digests_at s q c) k w w' h h' z z') where
+          pub written : {u : ℕ} → Listed [] (Made s (digests_at s q c) k) o t 0 u → Tries s d k m l p q o t 0 false c u × WorkedFor s d k m l false w w' h h' z z'
+          written L = (tries_new L (λ e. slots), worked_new W)
 
-          pub unwritten : (e : Refusal) (r : Result (Option Tried) Refusal) → IsErrAnd r (λ y. y ≡ e) → Listed [] (Made s (digests_at s (take c q) (length (take c q))) k) o t (code e) 0 → Tries s d k m l p q o t (number_of r) (known_of r) (slots_of r) (listed_of r) × WorkedFor s d k m l (known_of r) w w' h h' z z'
-          unwritten e r x L = rw (handed_on r x) (tries_new (rw (front room) at L) (λ y. absurd (code_some e y)), worked_new (rw (front room) at W))
+          pub unwritten : (e : Refusal) (r : Result (Option Tried) Refusal) → IsErrAnd r (λ y. y ≡ e) → Listed [] (Made s (digests_at s q c) k) o t (code e) 0 → Tries s d k m l p q o t (number_of r) (known_of r) (slots_of r) (listed_of r) × WorkedFor s d k m l (known_of r) w w' h h' z z'
+          unwritten e r x L = rw (handed_on r x) (tries_new L (λ y. absurd (code_some e y)), worked_new W)

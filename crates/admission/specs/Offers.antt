@@ -14,11 +14,20 @@ use Rattle.store.specs.Slots.{Gathering}
 use Rattle.store.specs.Sound.{Sound}
 use Rattle.refusal.specs.Damage.{Damaged}
 use Rattle.admission.specs.Marks.{Worked}
+use Rattle.rules.specs.Numbers.{kind_code}
+use Rattle.admission.specs.declared.offer.Offer.{Offer}
 use Rattle.admission.specs.declared.tried.Tried.{Tried}
 
 -- the refusals that come first: the arguments and the store
 abbrev pub input_refusals : List ℕ → List ℕ → ℕ → List ℕ → List ℕ → List (ℕ × Type 0)
 input_refusals s d k m l = (1, ¬ Shaped d k m l) ∷ (2, Over limits.predecessors l) ∷ (3, Damaged s) ∷ []
+
+-- o is the offer that the bytes d and m, the kind k and the list l are
+pub record Parsed (d : List ℕ) (k : ℕ) (m l : List ℕ) (o : Offer) : Type 0 where
+  pub digest : o.digest.now ≡ d
+  pub kind : kind_code o.kind ≡ k
+  pub member : o.member.now ≡ m
+  pub predecessors : o.predecessors.now ≡ l
 
 -- those of a new operation
 abbrev pub new_refusals : List ℕ → ℕ → List ℕ → List (ℕ × Type 0)

@@ -18,10 +18,8 @@ use rules::{Kind, Refusal};
 pub fn depth(store: &[u8], digest: &[u8]) -> Result<usize, Refusal>
     ensures { DepthOf (Damaged store.now) (ops_of store.now) digest.now (number_of result) (value_of result) }
 {
-    let graph = refusal::of_digest(store, digest)?;
-    let Some(i) = walk::place_of(graph, digest) else {
-        return Err(Refusal::OperationNotFound);
-    };
+    let (graph, digest) = refusal::of_digest(store, digest)?;
+    let i = walk::place_of(graph, digest).ok_or(Refusal::OperationNotFound)?;
     let mut depths = [0u16; 512];
     walk::depths(graph, &mut depths);
     Ok(usize::from(depths[i]))
@@ -31,7 +29,7 @@ pub fn depth(store: &[u8], digest: &[u8]) -> Result<usize, Refusal>
 pub fn contains_op_hash(store: &[u8], digest: &[u8]) -> Result<bool, Refusal>
     ensures { ContainsOpHash (Damaged store.now) (ops_of store.now) digest.now (number_of result) (yes_of result) }
 {
-    let graph = refusal::of_digest(store, digest)?;
+    let (graph, digest) = refusal::of_digest(store, digest)?;
     Ok(walk::place_of(graph, digest).is_some())
 }
 
@@ -49,7 +47,7 @@ pub fn contains_all(store: &[u8], list: &[u8]) -> Result<bool, Refusal>
 pub fn is_chainable(store: &[u8], digest: &[u8]) -> Result<bool, Refusal>
     ensures { IsChainable (Damaged store.now) (ops_of store.now) digest.now (number_of result) (yes_of result) }
 {
-    let graph = refusal::of_digest(store, digest)?;
+    let (graph, digest) = refusal::of_digest(store, digest)?;
     let Some(i) = walk::place_of(graph, digest) else {
         return Ok(false);
     };
@@ -79,7 +77,7 @@ pub fn has_single_head(store: &[u8]) -> Result<bool, Refusal>
 pub fn has_add_before(store: &[u8], member: &[u8], digest: &[u8]) -> Result<bool, Refusal>
     ensures { HasAddBefore (Damaged store.now) (ops_of store.now) member.now digest.now (number_of result) (yes_of result) }
 {
-    let graph = refusal::of_member(store, member, digest)?;
+    let (graph, member, digest) = refusal::of_member(store, member, digest)?;
     let Some(i) = walk::place_of(graph, digest) else {
         return Ok(false);
     };
@@ -91,11 +89,11 @@ pub fn has_add_before(store: &[u8], member: &[u8], digest: &[u8]) -> Result<bool
 pub fn added_member<'a>(store: &'a [u8], digest: &[u8]) -> &'a [u8]
     ensures { AddedMember (Damaged store.now) (ops_of store.now) digest.now result.now }
 {
-    let Ok(graph) = refusal::of_digest(store, digest) else {
+    let Ok((graph, digest)) = refusal::of_digest(store, digest) else {
         return &store[0..0];
     };
     match walk::place_of(graph, digest) {
-        Some(i) if graph.kind(i) == Kind::Add => store::member_at(graph.bytes, i),
+        Some(i) if graph.kind(i) == Kind::Add => graph.record(i).member(),
         _ => &store[0..0],
     }
 }
@@ -113,14 +111,14 @@ pub fn added_member_number(store: &[u8], digest: &[u8]) -> Result<(), Refusal>
 pub fn find<'a>(first: &'a [u8], second: &'a [u8], digest: &[u8]) -> &'a [u8]
     ensures { Find (Damaged first.now) (Damaged second.now) (ops_of first.now) (ops_of second.now) digest.now result.now }
 {
-    let Ok((one, other)) = refusal::of_two(first, second, digest) else {
+    let Ok((one, other, digest)) = refusal::of_two(first, second, digest) else {
         return &first[0..0];
     };
     if let Some(i) = walk::place_of(one, digest) {
-        return store::digest_at(one.bytes, i);
+        return one.record(i).digest();
     }
     if let Some(i) = walk::place_of(other, digest) {
-        return store::digest_at(other.bytes, i);
+        return other.record(i).digest();
     }
     &first[0..0]
 }

@@ -1,11 +1,12 @@
 #![tactic(auto)]
 // Fills a store to its capacities and damages it; prints what is found, a number each.
-ghost use Rattle.std.specs.Prelude.{◌≤◌, length};
-
-use printing::numbered;
+use printing::{number_of, numbered};
 use rules::{Kind, Refusal};
-use std::io;
-use store::{LARGE, Record};
+use std::{array, io};
+use store::{LARGE, Operation};
+
+// Where the last record starts after 17 adds and an update.
+const UPDATE: usize = 64 + 98 * 17;
 
 // Admits an operation to a sound store with room; answers whether its digest was new.
 fn put(
@@ -32,19 +33,15 @@ fn put(
         return Err(Refusal::Full);
     }
     let mut slots = [0u16; 16];
-    let Some(c) = store::gather(s, n, list, &mut slots) else {
-        return Err(Refusal::OutOfOrderOperation);
-    };
-    let kind = u8::from(kind);
-    let places = &slots[..c];
+    let c = store::gather(s, n, list, &mut slots).ok_or(Refusal::OutOfOrderOperation)?;
     store::append(
         s,
         LARGE,
-        Record {
+        Operation {
             digest,
-            kind,
+            kind: kind.into(),
             member,
-            places,
+            places: &slots[..c],
         },
     );
     Ok(true)
@@ -53,42 +50,29 @@ fn put(
 // What is printed: 0, a refusal's number, or 7 for a digest that is held.
 fn number(answer: Result<bool, Refusal>) -> u8 {
     match answer {
-        Ok(true) => 0,
         Ok(false) => 7,
-        Err(refusal) => refusal.number(),
+        _ => number_of(&answer),
     }
-}
-
-// Makes the store fresh.
-fn fresh(s: &mut [u8]) -> Result<bool, Refusal> {
-    store::make_fresh(s, LARGE)?;
-    Ok(true)
-}
-
-// What is printed of soundness: 1 or 0, or 2 for no answer.
-fn bit(answer: Option<bool>) -> u8 {
-    answer.map_or(2, u8::from)
 }
 
 // Whether a store is sound.
 fn sound(s: &[u8]) -> u8 {
-    bit(Some(store::sound(s, LARGE)))
+    u8::from(store::sound(s, LARGE))
 }
 
-// Whether the store is sound with byte p turned over, if there is such a byte; it is put back.
-fn turned(s: &mut [u8], p: usize) -> Option<bool> {
-    if s.len() <= p {
-        return None;
-    }
-    s[p] ^= 255;
-    let answer = store::sound(s, LARGE);
-    s[p] ^= 255;
-    Some(answer)
+// Whether the store is sound with byte p turned over; 2 if there is no such byte.
+fn turned(s: &[u8; 50240], p: usize) -> u8 {
+    let mut damaged = *s;
+    let Some(byte) = damaged.get_mut(p) else {
+        return 2;
+    };
+    *byte ^= 255;
+    sound(&damaged)
 }
 
-// An update that lists the digest before.
-fn put_after(s: &mut [u8], digest: &[u8; 32], before: &[u8; 32]) -> Result<bool, Refusal> {
-    put(s, digest, Kind::Update, &[0; 32], before)
+// An update that lists some digests.
+fn put_update(s: &mut [u8], digest: &[u8; 32], list: &[u8]) -> Result<bool, Refusal> {
+    put(s, digest, Kind::Update, &[0; 32], list)
 }
 
 // An add that lists nothing.
@@ -96,58 +80,30 @@ fn put_add(s: &mut [u8], digest: &[u8; 32]) -> Result<bool, Refusal> {
     put(s, digest, Kind::Add, &[7; 32], &[])
 }
 
-// Admits an add and then updates, each listing the one before it, until one isn't admitted; answers what that one was answered.
+// Admits an add and then updates, each listing the one before it, until one is refused; answers whether all were new.
 fn fill(s: &mut [u8]) -> Result<bool, Refusal> {
     let mut before = numbered(0, 0);
     let mut new = put_add(s, &before)?;
     for n in 1..600 {
-        if !new {
-            return Ok(false);
-        }
         let digest = numbered(n, 0);
-        new = put_after(s, &digest, &before)?;
+        new &= put_update(s, &digest, &before)?;
         before = digest;
     }
     Ok(new)
 }
 
-// Admits n adds.
+// Admits n adds; answers whether all were new.
 fn starts(s: &mut [u8], n: u16) -> Result<bool, Refusal> {
+    let mut new = true;
     for i in 0..n {
-        if !put_add(s, &numbered(i, 0))? {
-            return Ok(false);
-        }
+        new &= put_add(s, &numbered(i, 0))?;
     }
-    Ok(true)
-}
-
-// Puts the digests 0 to 16 into a list.
-fn seventeen(list: &mut [u8])
-    requires { 544 ≤ length list.old }
-{
-    for i in 0..17 {
-        list[32 * i + 1] = (i % 256) as u8;
-    }
-}
-
-// An update that lists the first n digests of a list.
-fn put_listing(s: &mut [u8], number: u16, list: &[u8], n: usize) -> Result<bool, Refusal> {
-    let end = 32 * (n % 18);
-    if list.len() < end {
-        return Err(Refusal::Shape);
-    }
-    put(
-        s,
-        &numbered(number, 0),
-        Kind::Update,
-        &[0; 32],
-        &list[..end],
-    )
+    Ok(new)
 }
 
 // 512 operations.
 fn full(rt: &impl Print, s: &mut [u8]) -> io::Result<()> {
-    println!(rt; "fresh: {}", number(fresh(s)))?;
+    println!(rt; "fresh: {}", number_of(&store::make_fresh(s, LARGE)))?;
     println!(rt; "sound: {}", sound(s))?;
     println!(rt; "operation 513: {}", number(fill(s)))?;
     println!(rt;
@@ -157,56 +113,49 @@ fn full(rt: &impl Print, s: &mut [u8]) -> io::Result<()> {
     println!(rt; "sound: {}", sound(s))
 }
 
-// 16 predecessors.
-fn slots(rt: &impl Print, s: &mut [u8], list: &[u8]) -> io::Result<()> {
-    println!(rt; "fresh: {}", number(fresh(s)))?;
+// 16 predecessors; the list has 17.
+fn slots(rt: &impl Print, s: &mut [u8], list: &[[u8; 32]; 17]) -> io::Result<()> {
+    let digest = numbered(20, 0);
+    println!(rt; "fresh: {}", number_of(&store::make_fresh(s, LARGE)))?;
     println!(rt; "17 adds: {}", number(starts(s, 17)))?;
-    println!(rt; "17 predecessors: {}", number(put_listing(s, 20, list, 17)))?;
-    println!(rt; "16 predecessors: {}", number(put_listing(s, 20, list, 16)))?;
+    let wide = put_update(s, &digest, list.as_flattened());
+    println!(rt; "17 predecessors: {}", number(wide))?;
+    let fits = put_update(s, &digest, list[..16].as_flattened());
+    println!(rt; "16 predecessors: {}", number(fits))?;
     println!(rt; "sound: {}", sound(s))
 }
 
 // A byte turned over, of digests, members and kinds.
-fn damages(rt: &impl Print, s: &mut [u8]) -> io::Result<()> {
-    println!(rt; "an add's member: {}", bit(turned(s, 96)))?;
-    println!(rt;
-        "a digest that nothing lists: {}",
-        bit(turned(s, 64 + 98 * 17))
-    )?;
-    println!(rt; "a digest that is listed: {}", bit(turned(s, 64)))?;
-    println!(rt; "an update's member: {}", bit(turned(s, 96 + 98 * 17)))?;
-    println!(rt; "a kind: {}", bit(turned(s, 128)))
+fn damages(rt: &impl Print, s: &[u8; 50240]) -> io::Result<()> {
+    println!(rt; "an add's member: {}", turned(s, 96))?;
+    println!(rt; "a digest that nothing lists: {}", turned(s, UPDATE))?;
+    println!(rt; "a digest that is listed: {}", turned(s, 64))?;
+    println!(rt; "an update's member: {}", turned(s, UPDATE + 32))?;
+    println!(rt; "a kind: {}", turned(s, 128))
 }
 
 // A byte turned over, of the slots and of what no record has.
-fn more_damages(rt: &impl Print, s: &mut [u8]) -> io::Result<()> {
-    println!(rt;
-        "a number of predecessors: {}",
-        bit(turned(s, 129 + 98 * 17))
-    )?;
-    println!(rt; "a predecessor's place: {}", bit(turned(s, 130 + 98 * 17)))?;
-    println!(rt; "a free slot: {}", bit(turned(s, 130)))?;
-    println!(rt;
-        "a byte after the last record: {}",
-        bit(turned(s, 64 + 98 * 18))
-    )?;
-    println!(rt; "the last byte: {}", bit(turned(s, 50239)))
+fn more_damages(rt: &impl Print, s: &[u8; 50240]) -> io::Result<()> {
+    println!(rt; "a number of predecessors: {}", turned(s, UPDATE + 65))?;
+    println!(rt; "a predecessor's place: {}", turned(s, UPDATE + 66))?;
+    println!(rt; "a free slot: {}", turned(s, 130))?;
+    println!(rt; "a byte after the last record: {}", turned(s, UPDATE + 98))?;
+    println!(rt; "the last byte: {}", turned(s, 50239))
 }
 
 // A byte turned over, of the store's first bytes; then none.
-fn first_bytes(rt: &impl Print, s: &mut [u8]) -> io::Result<()> {
-    println!(rt; "a reserved byte: {}", bit(turned(s, 2)))?;
-    println!(rt; "the count: {}", bit(turned(s, 0)))?;
+fn first_bytes(rt: &impl Print, s: &[u8; 50240]) -> io::Result<()> {
+    println!(rt; "a reserved byte: {}", turned(s, 2))?;
+    println!(rt; "the count: {}", turned(s, 0))?;
     println!(rt; "none: {}", sound(s))
 }
 
 fn main(rt: HostRuntime) -> io::Result<()> {
     let mut s = [1u8; 50240];
-    let mut list = [0u8; 544];
+    let list = array::from_fn(|n| numbered((n % 17) as u16, 0));
     full(&rt, &mut s)?;
-    seventeen(&mut list);
     slots(&rt, &mut s, &list)?;
-    damages(&rt, &mut s)?;
-    more_damages(&rt, &mut s)?;
-    first_bytes(&rt, &mut s)
+    damages(&rt, &s)?;
+    more_damages(&rt, &s)?;
+    first_bytes(&rt, &s)
 }

@@ -1,3 +1,4 @@
 pub mod Writing
 pub mod Orders
+pub mod Chunks
 pub mod Listing

@@ -1,12 +1,12 @@
--- Comparing bytes is comparing their numbers; what an answer of compare rules out.
+-- Comparing bytes is comparing their numbers; the tests of an answer.
 -- Assumes nothing.
 use Prim.Native.Nat.{ℕ, suc, ◌+◌, ◌<◌}
 use native.Mathlib.Omega.{arith}
-use mathlib.Core.Path.{◌≡◌, refl, subst}
+use mathlib.Core.Path.{◌≡◌, refl}
 use mathlib.Core.List.{List, [], ◌∷◌}
 use lib.ListN.{length, get_or}
 use Rattle.std.specs.Cmp.Lexicographic.{slice_cmp}
-use Rattle.std.specs.Ordering.{nat_cmp, ordering_then, MatchOrdering, is_gt, is_eq, is_lt}
+use Rattle.std.specs.Ordering.{nat_cmp, ordering_then, MatchOrdering, is_eq, is_lt}
 use Rattle.rules.specs.Answers.{Says}
 use Rattle.std.proofs.lemmas.Cmp.{ranked}
 use Rattle.rules.specs.Bytes.{number_at}
@@ -14,15 +14,6 @@ use Rattle.rules.proofs.Bytes.{number_front, number_less}
 use Rattle.digest.specs.Order.{Stands}
 use Rattle.std.specs.declared.cmp.Ordering.{Ordering}
 use Rattle.std.specs.declared.cmp.Ordering.TheVariants.{Less, Equal, Greater}
-
-pub stands_equal : (o : Ordering) {x y : ℕ} → Stands o x y → o ≡ Equal → x ≡ y
-stands_equal o {x} {y} t e = subst (λ r. Stands r x y) e t
-
-pub stands_less : (o : Ordering) {x y : ℕ} → Stands o x y → o ≡ Less → x < y
-stands_less o {x} {y} t e = subst (λ r. Stands r x y) e t
-
-pub stands_greater : (o : Ordering) {x y : ℕ} → Stands o x y → o ≡ Greater → y < x
-stands_greater o {x} {y} t e = subst (λ r. Stands r x y) e t
 
 -- the same before both
 stands_after : (o : Ordering) (h x y : ℕ) → Stands o x y → Stands o (h + x) (h + y)
@@ -44,11 +35,6 @@ cmp_stands (x ∷ xs) (y ∷ ys) n e f a b = let z : n ≡ 1 + length xs = omega
     step Greater h t = number_less (y ∷ ys) (x ∷ xs) 0 0 1 (1 + length xs) b a (omega arith) (omega arith)
 
 -- the tests of an answer
-pub says_gt : (o : Ordering) (x y : ℕ) → Stands o x y → Says (is_gt o) (y < x)
-says_gt Less x y t = λ l. omega (arith, t)
-says_gt Equal x y t = λ l. omega (arith, t)
-says_gt Greater x y t = t
-
 pub says_eq : (o : Ordering) (x y : ℕ) → Stands o x y → Says (is_eq o) (x ≡ y)
 says_eq Less x y t = λ l. omega (arith, t)
 says_eq Equal x y t = t

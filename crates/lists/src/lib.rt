@@ -1,6 +1,6 @@
 #![tactic(auto)]
 // The questions that answer a list of digests: each call tests its input, owns its work arrays and only reads the store.
-ghost use Rattle.std.specs.Prelude.{◌≤◌, ◌<◌, ◌≡◌, length};
+ghost use Rattle.std.specs.Prelude.{◌<◌, ◌≡◌};
 ghost use Rattle.rules.specs.Table.{most_listed};
 ghost use Rattle.rules.specs.Calls.{Heads, NearestUpdateAncestors, PredecessorsFor, ChildrenOf};
 ghost use Rattle.rules.specs.Numbers.{number_of, value_of};
@@ -38,7 +38,7 @@ pub fn nearest_update_ancestors(store: &[u8], list: &[u8], out: &mut [u8]) -> Re
 pub fn children_of(store: &[u8], digest: &[u8], out: &mut [u8]) -> Result<usize, Refusal>
     ensures { ChildrenOf (Damaged store.now) (ops_of store.now) digest.now out.old out.new (number_of result) (value_of result) }
 {
-    let graph = refusal::of_digest(store, digest)?;
+    let (graph, digest) = refusal::of_digest(store, digest)?;
     let Some(i) = walk::place_of(graph, digest) else {
         return Ok(0);
     };
@@ -50,14 +50,15 @@ pub fn children_of(store: &[u8], digest: &[u8], out: &mut [u8]) -> Result<usize,
 
 // Copies the places that record i lists; answers how many. One loop with `merging::map_slots` would take a closure and say its `post`
 // for each slot, which is longer than either.
-fn copy_preds(graph: Graph, i: usize, places: &mut [u16]) -> usize
-    requires { (i < count_of graph.bytes.now) × (16 ≤ length places.old) }
+fn copy_preds(graph: Graph, i: usize, places: &mut [u16; 16]) -> usize
+    requires { i < count_of graph.bytes.now }
     ensures { (result ≡ preds_at graph.entry.bytes.now i) × Front (pred_at graph.entry.bytes.now i) places.old places.new result }
 {
-    let c = store::preds_at(graph.bytes, i);
+    let record = graph.record(i);
+    let c = record.preds();
     for k in 0..c {
         // A place fits two bytes.
-        places[k] = store::pred_at(graph.bytes, i, k) as u16;
+        places[k] = record.pred(k) as u16;
     }
     c
 }
@@ -66,10 +67,8 @@ fn copy_preds(graph: Graph, i: usize, places: &mut [u16]) -> usize
 pub fn predecessors_for(store: &[u8], digest: &[u8], out: &mut [u8]) -> Result<usize, Refusal>
     ensures { PredecessorsFor (Damaged store.now) (ops_of store.now) digest.now out.old out.new (number_of result) (value_of result) }
 {
-    let graph = refusal::of_digest(store, digest)?;
-    let Some(i) = walk::place_of(graph, digest) else {
-        return Err(Refusal::OperationNotFound);
-    };
+    let (graph, digest) = refusal::of_digest(store, digest)?;
+    let i = walk::place_of(graph, digest).ok_or(Refusal::OperationNotFound)?;
     let mut places = [0u16; 16];
     let c = copy_preds(graph, i, &mut places);
     if out.len() < 32 * c {

@@ -12,7 +12,7 @@ ghost use Rattle.merging.specs.Places.{placed, SameSlots, Compares, Mapped, AllP
 ghost use Rattle.merging.specs.Merges.{MergesInto};
 
 use rules::Refusal;
-use store::{Graph, LARGE, Record};
+use store::{Graph, LARGE, Operation};
 
 // Whether slot k of place p in s and of place i in o name the same digest.
 fn same_slot(s: Graph, p: usize, o: Graph, i: usize, k: usize) -> bool
@@ -20,9 +20,9 @@ fn same_slot(s: Graph, p: usize, o: Graph, i: usize, k: usize) -> bool
     requires k_bound { (k < preds_at s.bytes.now p) × (k < preds_at o.bytes.now i) }
     ensures { Says result (digest_at s.entry.bytes.now (pred_at s.entry.bytes.now p k) ≡ digest_at o.entry.bytes.now (pred_at o.entry.bytes.now i k)) }
 {
-    let a = store::pred_at(s.bytes, p, k);
-    let b = store::pred_at(o.bytes, i, k);
-    digest::compare(store::digest_at(s.bytes, a), store::digest_at(o.bytes, b)).is_eq()
+    let a = s.record(p).pred(k);
+    let b = o.record(i).pred(k);
+    digest::equal(s.record(a).digest(), o.record(b).digest())
 }
 
 // Whether the first c slots of place p in s and of place i in o name the same digests.
@@ -39,15 +39,16 @@ fn same_op(s: Graph, p: usize, o: Graph, i: usize) -> bool
     requires p_bound { (p < count_of s.bytes.now) × (i < count_of o.bytes.now) × (digest_at s.bytes.now p ≡ digest_at o.bytes.now i) }
     ensures { Says result (op_of s.entry.bytes.now p ≡ op_of o.entry.bytes.now i) }
 {
-    if store::kind_at(s.bytes, p) != store::kind_at(o.bytes, i) {
+    let a = s.record(p);
+    let b = o.record(i);
+    if s.kind(p) != o.kind(i) {
         return false;
     }
-    let c = store::preds_at(s.bytes, p);
-    if c != store::preds_at(o.bytes, i) {
+    let c = a.preds();
+    if c != b.preds() {
         return false;
     }
-    digest::compare(store::member_at(s.bytes, p), store::member_at(o.bytes, i)).is_eq()
-        && same_slots(s, p, o, i, c)
+    digest::equal(a.member(), b.member()) && same_slots(s, p, o, i, c)
 }
 
 // Compares each operation of o with the one of s that has its digest; notes its place, if s has one. Answers how many s lacks.
@@ -57,7 +58,7 @@ fn compare_all(s: Graph, o: Graph, places: &mut [Option<u16>]) -> Result<usize, 
 {
     let mut lacking: usize = 0;
     for i in 0..o.count() {
-        match store::look_up(s.bytes, s.count(), store::digest_at(o.bytes, i)) {
+        match walk::place_of(s, o.record(i).digest()) {
             Some(p) => {
                 if !same_op(s, p, o, i) {
                     return Err(Refusal::Clash);
@@ -75,40 +76,42 @@ fn compare_all(s: Graph, o: Graph, places: &mut [Option<u16>]) -> Result<usize, 
 }
 
 // Puts the places that record i of o lists, as mapped, into `slots`; answers how many. `lists::copy_preds` says why they aren't one.
-fn map_slots(o: Graph, i: usize, places: &[Option<u16>], slots: &mut [u16]) -> usize
-    requires i_bound { (i < count_of o.bytes.now) × (16 ≤ length slots.old) }
+fn map_slots(o: Graph, i: usize, places: &[Option<u16>], slots: &mut [u16; 16]) -> usize
+    requires i_bound { i < count_of o.bytes.now }
     requires known { (j : ℕ) → j < i → get_or places.now j None ≡ Some (placed places.now j) }
     requires room { i ≤ length places.now }
     ensures { (result ≡ preds_at o.entry.bytes.now i) × Front (λ k. placed places.now (pred_at o.entry.bytes.now i k)) slots.old slots.new result }
 {
-    let c = store::preds_at(o.bytes, i);
+    let record = o.record(i);
+    let c = record.preds();
     for k in 0..c {
-        slots[k] = places[store::pred_at(o.bytes, i, k)].unwrap();
+        slots[k] = places[record.pred(k)].unwrap();
     }
     c
 }
 
 // Appends operation i of o, whose predecessors stand at the mapped places.
-fn append_from(s: &mut [u8], o: Graph, i: usize, places: &[Option<u16>], slots: &mut [u16])
+fn append_from(s: &mut [u8], o: Graph, i: usize, places: &[Option<u16>], slots: &mut [u16; 16])
     requires laid { Laid limits s.old }
-    requires s_bound { (count_of s.old < 512) × (i < count_of o.bytes.now) × (16 ≤ length slots.old) × (i ≤ length places.now) }
+    requires s_bound { (count_of s.old < 512) × (i < count_of o.bytes.now) × (i ≤ length places.now) }
     requires mapped { Mapped s.old o.bytes.now places.now i }
     ensures { Admitted limits s.old (op_of o.entry.bytes.now i) s.new × Front (λ k. placed places.now (pred_at o.entry.bytes.now i k)) slots.old slots.new (preds_at o.entry.bytes.now i) }
 {
     let c = map_slots(o, i, places, slots);
-    let operation = Record {
-        digest: store::digest_at(o.bytes, i),
-        kind: store::kind_at(o.bytes, i),
-        member: store::member_at(o.bytes, i),
+    let record = o.record(i);
+    let operation = Operation {
+        digest: record.digest(),
+        kind: record.kind(),
+        member: record.member(),
         places: &slots[..c],
     };
     store::append(s, LARGE, operation);
 }
 
 // Appends the operations of o that s lacks, in o's order, and notes their places. The slots are each one's in turn.
-fn take_over(s: &mut [u8], o: Graph, places: &mut [Option<u16>], slots: &mut [u16])
+fn take_over(s: &mut [u8], o: Graph, places: &mut [Option<u16>], slots: &mut [u16; 16])
     requires sound { Sound limits s.old }
-    requires room { (count_of o.bytes.now ≤ length places.old) × (16 ≤ length slots.old) }
+    requires room { count_of o.bytes.now ≤ length places.old }
     requires all_placed { AllPlaced s.old o.bytes.now places.old }
     requires not_overfull { ¬ Overfull limits (ops_of s.old) (ops_of o.bytes.now) }
     ensures { Taken s.old o.entry.bytes.now places.old s.new places.new (count_of o.entry.bytes.now) }

@@ -1,13 +1,14 @@
 #![tactic(auto)]
-// What the test programs share: digests and lists of them, and printing. Digest n is 32 bytes of value n; an output is filled with 170
-// before it is lent.
-ghost use Rattle.std.specs.Prelude.{◌+◌, ◌*◌, ◌≤◌, ◌≡◌, length, get_or};
+// What the test programs share: digests, and printing. Digest n is 32 bytes of value n; an output is filled with 170 before it is lent.
+ghost use Rattle.std.specs.Prelude.{◌+◌, ◌*◌, ◌≡◌, get_or, replicate};
 ghost use Rattle.rules.specs.Numbers.{number_of};
 
 use rules::Refusal;
 use std::io;
 
-pub fn digest(n: u8) -> [u8; 32] {
+pub fn digest(n: u8) -> [u8; 32]
+    ensures { result ≡ replicate 32 n }
+{
     [n; 32]
 }
 
@@ -37,27 +38,21 @@ pub fn untouched(out: &[u8], from: usize) -> bool {
     out.iter().skip(from).all(|x| *x == 170)
 }
 
-// Writes the digests of a list of digits; answers their length in bytes.
-pub fn expand(digits: &[u8], list: &mut [u8]) -> usize
-    ensures { result ≤ length list.new }
-{
-    for i in 0..list.len() {
-        let Some(digit) = digits.get(i / 32) else {
-            return i;
-        };
-        list[i] = digit % 16;
-    }
-    list.len()
-}
-
-// Prints a number, the value of each of the digests that are listed, and whether the bytes past them are untouched.
-pub fn listed(rt: &impl Print, n: u8, count: usize, out: &[u8]) -> io::Result<()> {
-    print!(rt; " {n} listed")?;
-    for k in 0..count {
-        if out.len() / 32 <= k {
-            return println!(rt; " too many");
-        }
-        print!(rt; " {}", out[32 * k])?;
+// Prints a label, the number of an answer that lists digests, the value of each of them, and whether the bytes past them are untouched.
+pub fn listed(
+    rt: &impl Print,
+    label: &str,
+    answer: Result<usize, Refusal>,
+    out: &[u8],
+) -> io::Result<()> {
+    print!(rt; "{label} {} listed", number_of(&answer))?;
+    let (digests, _) = out.as_chunks::<32>();
+    let count = answer.unwrap_or(0);
+    let Some(digests) = digests.get(..count) else {
+        return println!(rt; " too many");
+    };
+    for digest in digests {
+        print!(rt; " {}", digest[0])?;
     }
     println!(rt;
         "{}",
@@ -67,9 +62,4 @@ pub fn listed(rt: &impl Print, n: u8, count: usize, out: &[u8]) -> io::Result<()
             " rest changed"
         }
     )
-}
-
-// A part of a slice; the empty part where the places don't fit.
-pub fn part(t: &[u8], from: usize, to: usize) -> &[u8] {
-    t.get(from..to).unwrap_or(&[])
 }

@@ -1,7 +1,7 @@
 #![tactic(auto)]
 // The refusals that come first in every call: the first that holds, or the store as a graph where none does.
-ghost use Rattle.std.specs.Prelude.{◌⊎◌};
-ghost use Rattle.rules.specs.Table.{most_listed};
+ghost use Rattle.std.specs.Prelude.{◌⊎◌, ◌≡◌, [], ◌∷◌};
+ghost use Rattle.rules.specs.Table.{most_listed, OneDigest};
 ghost use Rattle.rules.specs.Small.{store_refusals, digest_refusals, list_refusals, member_refusals, lists_refusals, list_kind_refusals};
 ghost use Rattle.refusal.specs.Damage.{Damaged, GraphOf, Tested};
 
@@ -15,14 +15,22 @@ pub fn of_store(store: &[u8]) -> Result<Graph<'_>, Refusal>
     Graph::new(store, LARGE).ok_or(Refusal::Damaged)
 }
 
-// A store and a digest.
-pub fn of_digest<'a>(store: &'a [u8], digest: &[u8]) -> Result<Graph<'a>, Refusal>
-    ensures { Tested (digest_refusals (Damaged store.now) digest.now) (GraphOf store.now) result }
+// A digest or a member.
+pub fn whole(bytes: &[u8]) -> Result<&[u8; 32], Refusal>
+    ensures { Tested ((1, ¬ OneDigest bytes.now) ∷ []) (λ d. (d.now ≡ bytes.now) × OneDigest bytes.now) result }
 {
-    if digest.len() != 32 {
-        return Err(Refusal::Shape);
-    }
-    of_store(store)
+    bytes.try_into().ok().ok_or(Refusal::Shape)
+}
+
+// A store and a digest.
+pub fn of_digest<'a, 'b>(
+    store: &'a [u8],
+    digest: &'b [u8],
+) -> Result<(Graph<'a>, &'b [u8; 32]), Refusal>
+    ensures { Tested (digest_refusals (Damaged store.now) digest.now) (λ p. GraphOf store.now p.0 × (p.1.now ≡ digest.now)) result }
+{
+    let digest = whole(digest)?;
+    Ok((of_store(store)?, digest))
 }
 
 // A store and a list of digests.
@@ -39,13 +47,16 @@ pub fn of_list<'a>(store: &'a [u8], list: &[u8]) -> Result<Graph<'a>, Refusal>
 }
 
 // A store, a member and a digest.
-pub fn of_member<'a>(store: &'a [u8], member: &[u8], digest: &[u8]) -> Result<Graph<'a>, Refusal>
-    ensures { Tested (member_refusals (Damaged store.now) member.now digest.now) (GraphOf store.now) result }
+pub fn of_member<'a, 'b>(
+    store: &'a [u8],
+    member: &'b [u8],
+    digest: &'b [u8],
+) -> Result<(Graph<'a>, &'b [u8; 32], &'b [u8; 32]), Refusal>
+    ensures { Tested (member_refusals (Damaged store.now) member.now digest.now) (λ p. GraphOf store.now p.0 × (p.1.now ≡ member.now) × (p.2.now ≡ digest.now)) result }
 {
-    if member.len() != 32 || digest.len() != 32 {
-        return Err(Refusal::Shape);
-    }
-    of_store(store)
+    let member = whole(member)?;
+    let (graph, digest) = of_digest(store, digest)?;
+    Ok((graph, member, digest))
 }
 
 // A store and two lists of digests.
@@ -70,13 +81,13 @@ pub fn of_list_and_kind<'a>(store: &'a [u8], list: &[u8], kind: u8) -> Result<Gr
 }
 
 // Two stores and a digest.
-pub fn of_two<'a>(
+pub fn of_two<'a, 'b>(
     first: &'a [u8],
     second: &'a [u8],
-    digest: &[u8],
-) -> Result<(Graph<'a>, Graph<'a>), Refusal>
-    ensures { Tested (digest_refusals (Damaged first.now ⊎ Damaged second.now) digest.now) (λ p. GraphOf first.now p.0 × GraphOf second.now p.1) result }
+    digest: &'b [u8],
+) -> Result<(Graph<'a>, Graph<'a>, &'b [u8; 32]), Refusal>
+    ensures { Tested (digest_refusals (Damaged first.now ⊎ Damaged second.now) digest.now) (λ p. GraphOf first.now p.0 × GraphOf second.now p.1 × (p.2.now ≡ digest.now)) result }
 {
-    let graph = of_digest(first, digest)?;
-    Ok((graph, of_store(second)?))
+    let (graph, digest) = of_digest(first, digest)?;
+    Ok((graph, of_store(second)?, digest))
 }

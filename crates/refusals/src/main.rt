@@ -1,26 +1,13 @@
 #![tactic(auto)]
 // Runs every refusal of every public call; prints the numbers, the counts, and whether the lent bytes are untouched.
 use cgka_graph::Kind::{Add, Update};
-use cgka_graph::{Kind, Refusal, operation, predecessors};
-use printing::{number_of, part, untouched};
-use std::io;
+use cgka_graph::{Refusal, operation, predecessors};
+use printing::{digest, number_of, untouched};
+use samples::{Step, Store, put};
+use std::{array, io};
 
-type Store = [u8; 50240];
-
-// A table of digests: digest n is 32 bytes of value n.
-fn table() -> [u8; 16416] {
-    let mut t = [0u8; 16416];
-    for i in 0..16416 {
-        t[i] = (i / 32 % 256) as u8;
-    }
-    t
-}
-
-// Digest n of the table.
-fn of(t: &[u8], n: u8) -> &[u8] {
-    let at = 32 * usize::from(n);
-    part(t, at, at + 32)
-}
+// One digest more than a list may have: digest n is 32 bytes of value n mod 256.
+type Table = [[u8; 32]; 513];
 
 // Prints an answer's number and count, and whether an output is untouched.
 fn answered(
@@ -29,9 +16,9 @@ fn answered(
     answer: Result<usize, Refusal>,
     out: &[u8],
 ) -> io::Result<()> {
-    print!(rt; "{label}: {}", number_of(&answer))?;
     println!(rt;
-        " {} untouched {}",
+        "{label}: {} {} untouched {}",
+        number_of(&answer),
         answer.unwrap_or(0),
         u8::from(untouched(out, 0))
     )
@@ -41,9 +28,20 @@ fn answered(
 #[derive(Clone, Copy)]
 struct Operation<'a> {
     digest: &'a [u8],
+    // Any byte may be offered, and 3 is.
     kind: u8,
     member: &'a [u8],
     list: &'a [u8],
+}
+
+// An add of digest 9 that lists nothing.
+fn add(t: &Table) -> Operation<'_> {
+    Operation {
+        digest: &t[9],
+        kind: 0,
+        member: &t[0],
+        list: &[],
+    }
 }
 
 // Offers an operation; prints known, whether the store is untouched, number, count, and whether the output is untouched.
@@ -68,32 +66,27 @@ fn offer(
 }
 
 // Offers that have the wrong shape.
-fn misshapen(rt: &impl Print, s: &mut Store, t: &[u8], out: &mut [u8]) -> io::Result<()> {
-    let add = Operation {
-        digest: of(t, 9),
-        kind: 0,
-        member: of(t, 0),
-        list: &[],
-    };
+fn misshapen(rt: &impl Print, s: &mut Store, t: &Table, out: &mut [u8]) -> io::Result<()> {
+    let add = add(t);
     let remove = Operation {
         kind: 1,
-        list: of(t, 1),
+        list: &t[1],
         ..add
     };
     let short_digest = Operation {
-        digest: part(t, 0, 31),
+        digest: &t[0][..31],
         ..add
     };
     let short_member = Operation {
-        member: part(t, 0, 31),
+        member: &t[0][..31],
         ..add
     };
     let short_list = Operation {
-        list: part(t, 32, 63),
+        list: &t[1][..31],
         ..remove
     };
     let with_member = Operation {
-        member: of(t, 9),
+        member: &t[9],
         ..remove
     };
     offer(rt, "a digest of 31 bytes", s, short_digest, out)?;
@@ -103,23 +96,16 @@ fn misshapen(rt: &impl Print, s: &mut Store, t: &[u8], out: &mut [u8]) -> io::Re
     offer(rt, "a remove with a member", s, with_member, out)
 }
 
-// Offers that are known or refused otherwise; `ones` repeats digest 1.
-fn unfit(
-    rt: &impl Print,
-    s: &mut Store,
-    t: &[u8],
-    ones: &[u8; 544],
-    out: &mut [u8],
-) -> io::Result<()> {
+// Offers that are known or refused otherwise.
+fn unfit(rt: &impl Print, s: &mut Store, t: &Table, out: &mut [u8]) -> io::Result<()> {
     let remove = Operation {
-        digest: of(t, 9),
         kind: 1,
-        member: of(t, 0),
-        list: ones,
+        list: &[1; 544],
+        ..add(t)
     };
     let copies = Operation {
-        digest: of(t, 2),
-        list: &ones[..512],
+        digest: &t[2],
+        list: &[1; 512],
         ..remove
     };
     let rootless = Operation {
@@ -128,16 +114,16 @@ fn unfit(
         ..remove
     };
     let held = Operation {
-        digest: of(t, 2),
+        digest: &t[2],
         ..rootless
     };
     let unheld = Operation {
-        list: of(t, 8),
+        list: &t[8],
         ..remove
     };
     let update = Operation {
         kind: 2,
-        list: of(t, 3),
+        list: &t[3],
         ..remove
     };
     offer(rt, "17 copies of a digest", s, remove, out)?;
@@ -148,22 +134,14 @@ fn unfit(
     offer(rt, "an update without room for its list", s, update, out)
 }
 
-fn damaged_offers(
-    rt: &impl Print,
-    s: &mut Store,
-    t: &[u8],
-    ones: &[u8],
-    out: &mut [u8],
-) -> io::Result<()> {
-    let add = Operation {
-        digest: of(t, 9),
-        kind: 0,
-        member: of(t, 0),
-        list: &[],
+fn damaged_offers(rt: &impl Print, s: &mut Store, t: &Table, out: &mut [u8]) -> io::Result<()> {
+    let add = add(t);
+    let copies = Operation {
+        list: &[1; 544],
+        ..add
     };
-    let copies = Operation { list: ones, ..add };
     let held = Operation {
-        digest: of(t, 1),
+        digest: &t[1],
         ..add
     };
     offer(rt, "a damaged store", s, add, out)?;
@@ -207,8 +185,7 @@ fn answers(rt: &impl Print, s: &[u8], m: &[u8], d: &[u8], list: &[u8]) -> io::Re
 
 fn values(rt: &impl Print, s: &[u8], d: &[u8]) -> io::Result<()> {
     let depth = operation::depth(s, d);
-    print!(rt; "depth: {}", number_of(&depth))?;
-    println!(rt; " {}", depth.unwrap_or(0))?;
+    println!(rt; "depth: {} {}", number_of(&depth), depth.unwrap_or(0))?;
     let member = operation::added_member(s, d);
     given(rt, "member", operation::added_member_number(s, d), member)
 }
@@ -218,13 +195,13 @@ fn found(rt: &impl Print, label: &str, first: &[u8], second: &[u8], d: &[u8]) ->
     given(rt, label, operation::find_number(first, second, d), digest)
 }
 
-fn finds(rt: &impl Print, s: &[u8], other: &[u8], bad: &[u8], t: &[u8]) -> io::Result<()> {
-    found(rt, "find in the first", s, other, of(t, 2))?;
-    found(rt, "find in the second", other, s, of(t, 2))?;
-    found(rt, "find in neither", s, other, of(t, 9))?;
-    found(rt, "find, 31 bytes", s, other, part(t, 64, 95))?;
-    found(rt, "find, the first damaged", bad, s, of(t, 2))?;
-    found(rt, "find, the second damaged", s, bad, of(t, 2))
+fn finds(rt: &impl Print, s: &[u8], other: &[u8], bad: &[u8], t: &Table) -> io::Result<()> {
+    found(rt, "find in the first", s, other, &t[2])?;
+    found(rt, "find in the second", other, s, &t[2])?;
+    found(rt, "find in neither", s, other, &t[9])?;
+    found(rt, "find, 31 bytes", s, other, &t[2][..31])?;
+    found(rt, "find, the first damaged", bad, s, &t[2])?;
+    found(rt, "find, the second damaged", s, bad, &t[2])
 }
 
 // Every question, with a member, a digest and a list.
@@ -244,22 +221,14 @@ fn questions(
 }
 
 // Every question with input of each kind; the output has no room for a digest.
-fn inputs(rt: &impl Print, s: &[u8], t: &[u8], out: &mut [u8]) -> io::Result<()> {
-    let zero = of(t, 0);
-    let short = part(t, 64, 95);
-    questions(rt, "no room for a digest", s, zero, of(t, 2), of(t, 2), out)?;
+fn inputs(rt: &impl Print, s: &[u8], t: &Table, out: &mut [u8]) -> io::Result<()> {
+    let zero = &t[0];
+    let short = &t[2][..31];
+    questions(rt, "no room for a digest", s, zero, &t[2], &t[2], out)?;
     questions(rt, "a digest of 31 bytes", s, zero, short, short, out)?;
-    questions(
-        rt,
-        "a member of 31 bytes",
-        s,
-        part(t, 0, 31),
-        of(t, 1),
-        &[],
-        out,
-    )?;
-    questions(rt, "513 digests", s, zero, of(t, 5), part(t, 0, 16416), out)?;
-    questions(rt, "an unheld digest", s, zero, of(t, 9), of(t, 9), out)
+    questions(rt, "a member of 31 bytes", s, &t[0][..31], &t[1], &[], out)?;
+    questions(rt, "513 digests", s, zero, &t[5], t.as_flattened(), out)?;
+    questions(rt, "an unheld digest", s, zero, &t[9], &t[9], out)
 }
 
 fn fresh(rt: &impl Print, s: &mut Store, out: &mut [u8]) -> io::Result<()> {
@@ -268,42 +237,29 @@ fn fresh(rt: &impl Print, s: &mut Store, out: &mut [u8]) -> io::Result<()> {
     println!(rt; "fresh: {}", number_of(&operation::fresh(s)))
 }
 
-fn put(s: &mut Store, d: &[u8], kind: Kind, m: &[u8], list: &[u8]) {
-    let mut out = [0u8; 64];
-    let _ = operation::add_op(s, d, kind.into(), m, list, &mut out);
-}
-
 // 1, 2u(1), 3u(2), and an add 5 with the member 7.
-fn build(s: &mut Store, t: &[u8]) {
-    put(s, of(t, 1), Add, of(t, 0), &[]);
-    put(s, of(t, 2), Update, of(t, 0), of(t, 1));
-    put(s, of(t, 3), Update, of(t, 0), of(t, 2));
-    put(s, of(t, 5), Add, of(t, 7), &[]);
+fn build(s: &mut Store) {
+    samples::build(
+        s,
+        &[Step(1, Add, ""), Step(2, Update, "1"), Step(3, Update, "2")],
+    );
+    let _ = put(s, &digest(5), Add, 7, &[]);
 }
 
 fn main(rt: HostRuntime) -> io::Result<()> {
     let mut s = [0u8; 50240];
     let mut other = [0u8; 50240];
     let bad = [1u8; 50240];
-    let t = table();
-    let ones = [1u8; 544];
+    let t: Table = array::from_fn(|n| digest((n % 256) as u8));
     let mut out = [170u8; 31];
     fresh(&rt, &mut s, &mut out)?;
-    let _ = operation::fresh(&mut other);
-    build(&mut s, &t);
+    samples::fresh(&mut other);
+    build(&mut s);
     misshapen(&rt, &mut s, &t, &mut out)?;
-    unfit(&rt, &mut s, &t, &ones, &mut out)?;
+    unfit(&rt, &mut s, &t, &mut out)?;
     inputs(&rt, &s, &t, &mut out)?;
     finds(&rt, &s, &other, &bad, &t)?;
     s[2] = 1;
-    damaged_offers(&rt, &mut s, &t, &ones, &mut out)?;
-    questions(
-        &rt,
-        "a damaged store",
-        &s,
-        of(&t, 0),
-        of(&t, 1),
-        of(&t, 1),
-        &mut out,
-    )
+    damaged_offers(&rt, &mut s, &t, &mut out)?;
+    questions(&rt, "a damaged store", &s, &t[0], &t[1], &t[1], &mut out)
 }

@@ -5,7 +5,7 @@ use native.Mathlib.Omega.{arith}
 use native.Mathlib.Decide.{ℕ_discrete, dec_lt}
 use native.Mathlib.Nat.{zero-add}
 use mathlib.Core.Path.{◌≡◌, refl, sym, ◌∙◌, ap, subst}
-use mathlib.Core.Bool.{Bool, true, false, not}
+use mathlib.Core.Bool.{Bool, true, false}
 use mathlib.Core.Logic.{◌⊎◌, inl, inr, ◌↔◌}
 use mathlib.Core.List.Memᴰ
 use mathlib.Core.List.{List, [], ◌∷◌, ◌++◌, append-nil}
@@ -34,10 +34,6 @@ says_yes {P} b h e = subst (λ x. Says x P) e h
 
 pub says_no : {P : Type 0} (b : Bool) → Says b P → b ≡ false → ¬ P
 says_no {P} b h e = subst (λ x. Says x P) e h
-
-pub says_not : (P : Type 0) (b : Bool) → Says b P → Says (not b) (¬ P)
-says_not P true p = λ n. n p
-says_not P false n = n
 
 pub says_equal : (a b : ℕ) → Says (eqb a b) (a ≡ b)
 says_equal a b = go (ℕ_discrete a b)
@@ -130,9 +126,6 @@ listed_short {ds = ds} S l =
 
 pub listed_none : {P : ℕ → Type 0} {o : List ℕ} → ((x : ℕ) → ¬ P x) → Listed [] P o o 0 0
 listed_none n = listed_whole (record { ascending = none; into = λ x m. absurd (Memᴰ.not-nil m); back = λ x p. absurd (n x p) }) (omega arith) put_nothing
-
-pub answered_refused : {rs : List (ℕ × Type 0)} {P : Type 0} {n : ℕ} → ¬ (n ≡ 0) → First rs n → Answered rs P n false
-answered_refused z f = record { number = f; done = λ e. absurd (z e); refused = λ e. refl }
 
 pub answered_done : {rs : List (ℕ × Type 0)} {P : Type 0} {b : Bool} → First rs 0 → Says b P → Answered rs P 0 b
 answered_done f p = record { number = f; done = λ e. p; refused = λ z. absurd (z refl) }

@@ -1,6 +1,6 @@
 -- The number of k bytes is injective and compares as the bytes do, the first that differs deciding. Rows by places.
 -- Assumes nothing.
-use Prim.Native.Nat.{ℕ, zero, suc, ◌+◌, ◌-◌, ◌*◌, ◌^◌, ◌≤◌, ◌<◌}
+use Prim.Native.Nat.{ℕ, zero, suc, ◌+◌, ◌*◌, ◌^◌, ◌≤◌, ◌<◌}
 use native.Mathlib.Omega.{arith}
 use native.Mathlib.Decide.{ℕ_discrete, dec_lt}
 use native.Mathlib.Numerals.{add-one}
@@ -8,7 +8,7 @@ use native.Mathlib.Nat.{pow-suc, add-zero}
 use mathlib.Core.Path.{◌≡◌, refl, sym, ◌∙◌, ap, subst}
 use mathlib.Core.List.{List, [], ◌∷◌, ◌++◌}
 use lib.ListN.{length, get_or, take, drop, length-append, get_or-append}
-use Rattle.std.proofs.lemmas.List.{get_or-take, get_or-drop, get_or_past, length-take, take_rest}
+use Rattle.std.proofs.lemmas.List.{get_or-take, get_or-drop, get_or_past, length-take}
 use lib.Seq.{get_or_at}
 use Rattle.std.proofs.Common.{Fits, w8}
 use Rattle.rules.specs.Bytes.{Bytes, number_at, digest_of, row}
@@ -126,9 +126,6 @@ digest_take s m h = number_same (take m s) s 0 0 32 (λ j l. get_or-take m s (0 
 
 pub digest_drop : (s : List ℕ) (a : ℕ) → digest_of (drop a s) ≡ number_at s a 32
 digest_drop s a = number_same (drop a s) s 0 a 32 (λ j l. get_or-drop a s (0 + j) 0 ∙ ap (λ x. get_or s x 0) (omega arith))
-
-pub digest_rest : (s : List ℕ) (a : ℕ) → digest_of (take (length s - a) (drop a s)) ≡ number_at s a 32
-digest_rest s a = rw (take_rest s a) (digest_drop s a)
 
 pub digest_part : (s : List ℕ) (a m : ℕ) → 32 ≤ m → digest_of (take m (drop a s)) ≡ number_at s a 32
 digest_part s a m h = digest_take (drop a s) m h ∙ digest_drop s a

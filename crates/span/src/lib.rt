@@ -15,8 +15,9 @@ fn raise_listed(graph: Graph, i: usize, v: u16, far: &mut [u16])
     requires i_bound { i < count_of graph.bytes.now }
     ensures { Lifted (Lists graph.entry.bytes.now i) v far.old far.new }
 {
-    for k in 0..store::preds_at(graph.bytes, i) {
-        let p = store::pred_at(graph.bytes, i, k);
+    let record = graph.record(i);
+    for k in 0..record.preds() {
+        let p = record.pred(k);
         far[p] = far[p].max(v);
     }
 }

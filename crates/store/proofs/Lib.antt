@@ -4,4 +4,3 @@ pub mod Unique
 pub mod Tests
 pub mod Writing
 pub mod Slots
-pub mod Parts

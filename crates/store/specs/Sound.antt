@@ -16,9 +16,6 @@ pub record Roomy (L : Limits) : Type 0 where
   pub operations : L.operations ≤ 512
   pub predecessors : L.predecessors ≤ 16
 
-abbrev pub within : ℕ → ℕ → Limits
-within operations predecessors = record { operations = operations; predecessors = predecessors }
-
 -- a fresh store: every byte is zero
 pub record Blank (ops : ℕ) (s : List ℕ) : Type 0 where
   pub size : length s ≡ size_of ops

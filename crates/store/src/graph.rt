@@ -4,6 +4,7 @@ ghost use Rattle.store.specs.Checked.{Checked};
 ghost use Rattle.store.specs.Capacities.{limits_of};
 
 use crate::capacity::Capacity;
+use crate::record::Record;
 use rules::Kind;
 
 // The operations of a sound store. That the bytes are sound is part of the type.
@@ -38,15 +39,19 @@ impl<'a> Graph<'a> {
         crate::count(self.bytes)
     }
 
+    // The record of operation i.
+    pub fn record(self, i: usize) -> Record<'a>
+        requires { i < count_of self.bytes.now }
+        ensures { (result.bytes.now ≡ self.entry.bytes.now) × (result.place ≡ i) }
+    {
+        Record::new(self.bytes, i)
+    }
+
     // What operation i does.
     pub fn kind(self, i: usize) -> Kind
         requires { i < count_of self.bytes.now }
         ensures { kind_code result ≡ kind_at self.entry.bytes.now i }
     {
-        match crate::kind_at(self.bytes, i) {
-            0 => Kind::Add,
-            1 => Kind::Remove,
-            _ => Kind::Update,
-        }
+        Kind::try_from(self.record(i).kind()).unwrap()
     }
 }

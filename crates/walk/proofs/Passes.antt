@@ -4,14 +4,28 @@ use Prim.Native.Nat.{ℕ, suc, max, ◌+◌, ◌<◌}
 use native.Mathlib.Omega.{arith}
 use native.Mathlib.Decide.{ℕ_discrete, dec_lt}
 use mathlib.Core.Path.{◌≡◌, refl, sym, ◌∙◌}
-use mathlib.Core.Logic.{◌⊎◌, inl, inr}
+use mathlib.Core.Logic.{◌⊎◌, inl, inr, ⊎_elim}
 use mathlib.Core.List.{List}
-use lib.ListN.{get_or}
+use lib.ListN.{get_or, set, length}
 use Rattle.store.specs.Layout.{count_of, pred_at}
 use Rattle.walk.specs.Marks.{Ready, Paint, hit, miss, Painted}
-use Rattle.walk.specs.Passes.{Picked, Lists, SomeLists, Reached, start, step, Deepest}
+use Rattle.walk.specs.Passes.{Picked, OneOf, Lists, SomeLists, Reached, start, step, Deepest}
 use Rattle.walk.specs.declared.Pick.{Pick}
-use Rattle.walk.proofs.Painting.{painted_as, painted_two, ready_early}
+use Rattle.walk.proofs.Painting.{painted_as, painted_one, painted_two, ready_early}
+
+-- one more of f 0, f 1, .. gets the mark
+pub one_more : {f : ℕ → ℕ} {k v p : ℕ} {m u : List ℕ} → Painted (OneOf f k) v m u → p ≡ f k → p < length u → Painted (OneOf f (k + 1)) v m (set u p v)
+one_more {f} {k} {v} {p} {u = u} w e l = painted_as into back (painted_two w (painted_one u p v l))
+  where
+    into : (j : ℕ) → OneOf f k j ⊎ (j ≡ p) → OneOf f (k + 1) j
+    into j = ⊎_elim (λ o. record { nth = o.nth; below = omega (arith, o.below); there = o.there }) (λ x. record { nth = k; below = omega arith; there = sym (x ∙ e) })
+
+    back : (j : ℕ) → OneOf f (k + 1) j → OneOf f k j ⊎ (j ≡ p)
+    back j o = go (ℕ_discrete o.nth k)
+      where
+        go : Dec (o.nth ≡ k) → OneOf f k j ⊎ (j ≡ p)
+        go (yes x) = inr (sym (rw x at o.there) ∙ sym e)
+        go (no n) = inl (record { nth = o.nth; below = omega (arith, o.below, n); there = o.there })
 
 module _ {p : Pick} {s : List ℕ} {i : ℕ} where
   listed_wider : (j : ℕ) → SomeLists p s i j → SomeLists p s (i + 1) j

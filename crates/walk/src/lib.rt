@@ -1,14 +1,14 @@
 #![tactic(auto)]
 // Walks over a sound store: each leaves a mark for each of its operations, in arrays by place that the caller lends, as the rules have
-// work arrays. What is asked of them is room: it speaks of graph and array, so that no type of either can hold it.
-ghost use Rattle.std.specs.Prelude.{ℕ, ◌+◌, ◌*◌, ◌/◌, ◌%◌, ◌≤◌, ◌<◌, ◌≡◌, [], ◌∷◌, length, get_or};
+// work arrays. What is asked is room in an array, and that a place is the graph's: each speaks of two parameters, so that no type of one
+// can hold it.
+ghost use Rattle.std.specs.Prelude.{ℕ, ◌/◌, ◌≤◌, ◌<◌, [], ◌∷◌, length, get_or};
 ghost use Rattle.rules.specs.Bytes.{digest_of, digests_of};
 ghost use Rattle.rules.specs.Answers.{Says};
 ghost use Rattle.rules.specs.Lists.{◌∈◌};
 ghost use Rattle.rules.specs.Graph.{Head, Child, InPast};
 ghost use Rattle.rules.specs.Small.{AddBefore};
 ghost use Rattle.rules.specs.Updates.{Chainable};
-ghost use Rattle.digest.specs.Lists.{nth, Among};
 ghost use Rattle.store.specs.Layout.{count_of, digest_at, preds_at, ops_of};
 ghost use Rattle.store.specs.Answers.{Looked};
 ghost use Rattle.walk.specs.Marks.{Painted, Told};
@@ -55,8 +55,9 @@ fn mark_listed(graph: Graph, i: usize, marks: &mut [u8], v: u8)
     requires i_bound { i < count_of graph.bytes.now }
     ensures { Painted (Lists graph.entry.bytes.now i) v marks.old marks.new }
 {
-    for k in 0..store::preds_at(graph.bytes, i) {
-        marks[store::pred_at(graph.bytes, i, k)] = v;
+    let record = graph.record(i);
+    for k in 0..record.preds() {
+        marks[record.pred(k)] = v;
     }
 }
 
@@ -137,7 +138,8 @@ fn lists(graph: Graph, i: usize, p: usize) -> bool
     requires { i < count_of graph.bytes.now }
     ensures { Says result (Lists graph.entry.bytes.now i p) }
 {
-    (0..store::preds_at(graph.bytes, i)).any(|k| store::pred_at(graph.bytes, i, k) == p)
+    let record = graph.record(i);
+    (0..record.preds()).any(|k| record.pred(k) == p)
 }
 
 // Marks the children of the operation at place p.
@@ -158,9 +160,10 @@ fn depth_at(graph: Graph, i: usize, depths: &[u16]) -> u16
     requires by_index { (j : ℕ) → j < i → get_or depths.now j 0 ≤ j }
     ensures { (result ≤ i) × Deepest graph.entry.bytes.now i depths.now (preds_at graph.entry.bytes.now i) result }
 {
+    let record = graph.record(i);
     let mut deep: u16 = 0;
-    for k in 0..store::preds_at(graph.bytes, i) {
-        deep = deep.max(depths[store::pred_at(graph.bytes, i, k)] + 1);
+    for k in 0..record.preds() {
+        deep = deep.max(depths[record.pred(k)] + 1);
     }
     deep
 }
@@ -176,27 +179,10 @@ pub fn depths(graph: Graph, depths: &mut [u16])
 }
 
 // The place of a digest.
-pub fn place_of(graph: Graph, digest: &[u8]) -> Option<usize>
-    requires { 32 ≤ length digest.now }
+pub fn place_of(graph: Graph, digest: &[u8; 32]) -> Option<usize>
     ensures { Looked result graph.entry.bytes.now (count_of graph.entry.bytes.now) (digest_of digest.now) }
 {
     store::look_up(graph.bytes, graph.count(), digest)
-}
-
-// Whether digests j and k of a list are the same.
-fn same(list: &[u8], j: usize, k: usize) -> bool
-    requires { (32 * j + 32 ≤ length list.now) × (32 * k + 32 ≤ length list.now) }
-    ensures { Says result (nth list.now j ≡ nth list.now k) }
-{
-    digest::compare(&list[32 * j..], &list[32 * k..]).is_eq()
-}
-
-// Whether digest k of a list stands in it before.
-fn stood(list: &[u8], k: usize) -> bool
-    requires { 32 * k + 32 ≤ length list.now }
-    ensures { Says result (Among list.now k (nth list.now k)) }
-{
-    (0..k).any(|j| same(list, j, k))
 }
 
 // Marks the held digests of a list and counts those that aren't held, each once.
@@ -205,11 +191,12 @@ pub fn mark_held(graph: Graph, list: &[u8], marks: &mut [u8]) -> usize
     ensures { Told graph.entry.bytes.now (λ d. d ∈ digests_of list.now) marks.old marks.new × Sized (UnheldAmong graph.entry.bytes.now list.now (length list.now / 32)) result }
 {
     fill(marks, graph.count(), 0);
+    let digests = list.as_chunks::<32>().0;
     let mut missing: usize = 0;
-    for k in 0..list.len() / 32 {
-        if let Some(i) = place_of(graph, &list[32 * k..]) {
+    for (k, digest) in digests.iter().enumerate() {
+        if let Some(i) = place_of(graph, digest) {
             marks[i] = 1;
-        } else if !stood(list, k) {
+        } else if !digests[..k].contains(digest) {
             missing += 1;
         }
     }
@@ -217,27 +204,25 @@ pub fn mark_held(graph: Graph, list: &[u8], marks: &mut [u8]) -> usize
 }
 
 // Whether record i is an add of the member.
-fn adds(graph: Graph, i: usize, member: &[u8]) -> bool
-    requires i_bound { i < count_of graph.bytes.now }
-    requires in_bounds { 32 ≤ length member.now }
+fn adds(graph: Graph, i: usize, member: &[u8; 32]) -> bool
+    requires { i < count_of graph.bytes.now }
     ensures { Says result (Adds graph.entry.bytes.now i (digest_of member.now)) }
 {
-    graph.kind(i) == Kind::Add && digest::compare(store::member_at(graph.bytes, i), member).is_eq()
+    graph.kind(i) == Kind::Add && digest::equal(graph.record(i).member(), member)
 }
 
 // Whether a marked operation is an add of the member.
-fn any_add(graph: Graph, marks: &[u8], member: &[u8]) -> bool
-    requires room { count_of graph.bytes.now ≤ length marks.now }
-    requires in_bounds { 32 ≤ length member.now }
+fn any_add(graph: Graph, marks: &[u8], member: &[u8; 32]) -> bool
+    requires { count_of graph.bytes.now ≤ length marks.now }
     ensures { Says result (MarkedAdd graph.entry.bytes.now marks.now (count_of graph.entry.bytes.now) (digest_of member.now)) }
 {
     (0..graph.count()).any(|i| marks[i] == 1 && adds(graph, i, member))
 }
 
 // Whether an add of the member is at or before place p; marks what is there.
-pub fn add_before(graph: Graph, p: usize, member: &[u8], marks: &mut [u8]) -> bool
+pub fn add_before(graph: Graph, p: usize, member: &[u8; 32], marks: &mut [u8]) -> bool
     requires room { count_of graph.bytes.now ≤ length marks.old }
-    requires p_bound { (p < count_of graph.bytes.now) × (32 ≤ length member.now) }
+    requires p_bound { p < count_of graph.bytes.now }
     ensures { Says result (AddBefore (ops_of graph.entry.bytes.now) (digest_of member.now) (digest_at graph.entry.bytes.now p)) × Told graph.entry.bytes.now (InPast (ops_of graph.entry.bytes.now) (digest_at graph.entry.bytes.now p ∷ [])) marks.old marks.new }
 {
     fill(marks, graph.count(), 0);

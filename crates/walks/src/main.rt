@@ -1,71 +1,63 @@
 #![tactic(auto)]
 // Runs the walks and the orders over the graphs of the rules; prints what they mark and in which order.
 use order::Ranking;
-use printing::{digest, expand, listed, number_of};
-use rules::Kind;
+use printing::{digest, listed, number_of};
 use rules::Kind::{Add, Remove, Update};
+use samples::{K, SKIP, SPAN, Sample, Step, Store, TWO_ADDS, build, expand, fresh};
 use std::io;
 use store::Graph;
 
-// Makes the store fresh.
-fn fresh(s: &mut [u8]) {
-    let _ = admission::fresh(s);
-}
+const NOT_ASCENDING: Sample = Sample {
+    label: "1, 5(1), 2(5), 4(1), 3(1)",
+    steps: &[
+        Step(1, Add, ""),
+        Step(5, Remove, "1"),
+        Step(2, Remove, "5"),
+        Step(4, Remove, "1"),
+        Step(3, Remove, "1"),
+    ],
+};
 
-// Admits an operation with no member; a list is written with one digit a digest.
-fn put(s: &mut [u8], n: u8, kind: Kind, digits: &str) {
-    let mut list = [0u8; 512];
-    let mut out = [170u8; 512];
-    let len = expand(digits.as_bytes(), &mut list);
-    let _ = admission::add_op(
-        s,
-        &digest(n),
-        kind.into(),
-        &digest(0),
-        &list[..len],
-        &mut out,
-    );
-}
+const UPDATES: Sample = Sample {
+    label: "1, 2u(1), 3u(2), 4u(2), 5(3)",
+    steps: &[
+        Step(1, Add, ""),
+        Step(2, Update, "1"),
+        Step(3, Update, "2"),
+        Step(4, Update, "2"),
+        Step(5, Remove, "3"),
+    ],
+};
 
 // The marked digests, ascending.
 fn set(rt: &impl Print, label: &str, graph: Graph, marks: &[u8; 512]) -> io::Result<()> {
     let mut places = [0u16; 512];
     let mut out = [170u8; 512];
     let answer = order::write_set(graph, marks, &mut places, &mut out);
-    print!(rt; "{label}:")?;
-    listed(rt, number_of(&answer), answer.unwrap_or(0), &out)
+    listed(rt, label, answer, &out)
 }
 
-fn heads(rt: &impl Print, graph: Graph) -> io::Result<()> {
+// The heads and the chainable updates.
+fn of_all(rt: &impl Print, graph: Graph) -> io::Result<()> {
     let mut marks = [0u8; 512];
     walk::mark_heads(graph, &mut marks);
-    set(rt, "heads", graph, &marks)
-}
-
-fn chainable(rt: &impl Print, graph: Graph) -> io::Result<()> {
-    let mut marks = [0u8; 512];
+    set(rt, "heads:", graph, &marks)?;
     walk::chainable(graph, &mut marks);
-    set(rt, "chainable", graph, &marks)
+    set(rt, "chainable:", graph, &marks)
 }
 
-// What is at or before the digests of a list; how many of them aren't held.
-fn past(rt: &impl Print, graph: Graph, digits: &str) -> io::Result<()> {
+// How many digests of a list aren't held; what is at or before the others, and their nearest updates.
+fn of_list(rt: &impl Print, graph: Graph, digits: &str) -> io::Result<()> {
     let mut list = [0u8; 512];
     let mut marks = [0u8; 512];
     let len = expand(digits.as_bytes(), &mut list);
     let missing = walk::mark_held(graph, &list[..len], &mut marks);
+    let mut updates = marks;
     walk::past(graph, &mut marks);
     print!(rt; "missing {missing}")?;
-    set(rt, ", at or before", graph, &marks)
-}
-
-fn nearest(rt: &impl Print, graph: Graph, digits: &str) -> io::Result<()> {
-    let mut list = [0u8; 512];
-    let mut marks = [0u8; 512];
-    let len = expand(digits.as_bytes(), &mut list);
-    walk::mark_held(graph, &list[..len], &mut marks);
-    walk::nearest(graph, &mut marks);
-    set(rt, "nearest updates", graph, &marks)
+    set(rt, ", at or before:", graph, &marks)?;
+    walk::nearest(graph, &mut updates);
+    set(rt, "nearest updates:", graph, &updates)
 }
 
 // The children of a digest.
@@ -76,7 +68,7 @@ fn children(rt: &impl Print, graph: Graph, n: u8) -> io::Result<()> {
     let mut marks = [0u8; 512];
     walk::children(graph, i, &mut marks);
     print!(rt; "of {n}")?;
-    set(rt, " children", graph, &marks)
+    set(rt, " children:", graph, &marks)
 }
 
 // Whether an add of the empty member is at or before a digest.
@@ -103,8 +95,7 @@ fn by_depth(rt: &impl Print, graph: Graph) -> io::Result<()> {
         depths: &depths,
     };
     let answer = order::write_marked(ranking, &marks, &mut places, &mut out);
-    print!(rt; "by depth:")?;
-    listed(rt, number_of(&answer), answer.unwrap_or(0), &out)?;
+    listed(rt, "by depth:", answer, &out)?;
     print!(rt; "depths:")?;
     for depth in depths.iter().take(n) {
         print!(rt; " {depth}")?;
@@ -117,79 +108,29 @@ fn walks(rt: &impl Print, s: &[u8], digits: &str) -> io::Result<()> {
         return Ok(());
     };
     by_depth(rt, graph)?;
-    heads(rt, graph)?;
-    chainable(rt, graph)?;
-    past(rt, graph, digits)?;
-    nearest(rt, graph, digits)?;
+    of_all(rt, graph)?;
+    of_list(rt, graph, digits)?;
     children(rt, graph, 1)?;
     children(rt, graph, 3)?;
     add_before(rt, graph, 3)
 }
 
-// Makes a store fresh and begins a graph with an add.
-fn begin(rt: &impl Print, s: &mut [u8], label: &str) -> io::Result<()> {
-    println!(rt; "{label}")?;
-    fresh(s);
-    put(s, 1, Add, "");
-    Ok(())
-}
-
-fn graph_with_skip(rt: &impl Print, s: &mut [u8]) -> io::Result<()> {
-    begin(rt, s, "1, 2(1), 3(2,1)")?;
-    put(s, 2, Remove, "1");
-    put(s, 3, Remove, "21");
-    walks(rt, s, "2")
-}
-
-fn graph_with_span(rt: &impl Print, s: &mut [u8]) -> io::Result<()> {
-    begin(rt, s, "1, 2(1), 3(2), 4(3,1)")?;
-    put(s, 2, Remove, "1");
-    put(s, 3, Remove, "2");
-    put(s, 4, Remove, "31");
-    walks(rt, s, "4")
-}
-
-fn graph_k(rt: &impl Print, s: &mut [u8]) -> io::Result<()> {
-    begin(rt, s, "1, 2(1), 3(1), 4(3)")?;
-    put(s, 2, Remove, "1");
-    put(s, 3, Remove, "1");
-    put(s, 4, Remove, "3");
-    walks(rt, s, "3")?;
-    walks(rt, s, "99283")
-}
-
-fn graph_not_ascending(rt: &impl Print, s: &mut [u8]) -> io::Result<()> {
-    begin(rt, s, "1, 5(1), 2(5), 4(1), 3(1)")?;
-    put(s, 5, Remove, "1");
-    put(s, 2, Remove, "5");
-    put(s, 4, Remove, "1");
-    put(s, 3, Remove, "1");
-    walks(rt, s, "25")
-}
-
-fn graph_of_two_adds(rt: &impl Print, s: &mut [u8]) -> io::Result<()> {
-    begin(rt, s, "adds 1 and 2")?;
-    put(s, 2, Add, "");
-    walks(rt, s, "")
-}
-
-fn graph_of_updates(rt: &impl Print, s: &mut [u8]) -> io::Result<()> {
-    begin(rt, s, "1, 2u(1), 3u(2), 4u(2), 5(3)")?;
-    put(s, 2, Update, "1");
-    put(s, 3, Update, "2");
-    put(s, 4, Update, "2");
-    put(s, 5, Remove, "3");
-    walks(rt, s, "45")
+// Builds a graph and walks over it.
+fn graph_walks(rt: &impl Print, s: &mut Store, sample: &Sample, digits: &str) -> io::Result<()> {
+    println!(rt; "{}", sample.label)?;
+    build(s, sample.steps);
+    walks(rt, s, digits)
 }
 
 fn main(rt: HostRuntime) -> io::Result<()> {
     let mut s = [0u8; 50240];
     fresh(&mut s);
     walks(&rt, &s, "1")?;
-    graph_with_skip(&rt, &mut s)?;
-    graph_with_span(&rt, &mut s)?;
-    graph_k(&rt, &mut s)?;
-    graph_not_ascending(&rt, &mut s)?;
-    graph_of_two_adds(&rt, &mut s)?;
-    graph_of_updates(&rt, &mut s)
+    graph_walks(&rt, &mut s, &SKIP, "2")?;
+    graph_walks(&rt, &mut s, &SPAN, "4")?;
+    graph_walks(&rt, &mut s, &K, "3")?;
+    walks(&rt, &s, "99283")?;
+    graph_walks(&rt, &mut s, &NOT_ASCENDING, "25")?;
+    graph_walks(&rt, &mut s, &TWO_ADDS, "")?;
+    graph_walks(&rt, &mut s, &UPDATES, "45")
 }

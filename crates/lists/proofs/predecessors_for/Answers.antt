@@ -9,12 +9,12 @@ use Rattle.rules.specs.Answers.{Put, Listed}
 use Rattle.rules.specs.Bytes.{digest_of}
 use Rattle.rules.specs.Graph.{Child}
 use Rattle.rules.specs.Small.{digest_refusals, held_refusals}
-use Rattle.rules.proofs.Answers.{listed_refused, listed_past}
+use Rattle.rules.proofs.Answers.{listed_past}
 use Rattle.rules.proofs.First.{None}
 use Rattle.std.specs.Prelude.{Ok}
 use Rattle.refusal.specs.Damage.{Damaged, GraphOf, Tested}
-use Rattle.refusal.proofs.Graphs.{held, unheld}
-use Rattle.refusal.proofs.Refusals.{refuses_list, digest_room, held_refused, held_lacking, held_none}
+use Rattle.refusal.proofs.Graphs.{held, unheld, found_on, lacking_on}
+use Rattle.refusal.proofs.Refusals.{refuses_list, tested_part, held_refused, held_lacking, held_none}
 use Rattle.store.specs.Layout.{count_of, digest_at, preds_at, pred_at, ops_of}
 use Rattle.store.specs.declared.graph.Graph.{Graph}
 use Rattle.order.specs.Sorted.{digests_at}
@@ -49,17 +49,26 @@ module _ (s d : List ℕ) {g : Graph} {h h' : List ℕ} {i c : ℕ} (T : Tested 
 pub returns-in_err-graph : goal.returns-in_err-graph
 returns-in_err-graph c = refuses_list _ _ c.from_residual.ensures.1 (held_refused _ _ _ c.in_err-graph.ensures.number)
 
-pub place_of-requires : goal.place_of-requires
-place_of-requires c = digest_room _ _ c.in_ok-graph.ensures.number
-
-pub returns-in_default : goal.returns-in_default
-returns-in_default c = let t = c.in_ok-graph.ensures in listed_refused (omega arith) (held_lacking _ _ t.number (unheld t.passed c.in_default.ensures))
+pub returns-in_err-i : goal.returns-in_err-i
+returns-in_err-i c =
+    let t = c.in_ok-graph.ensures in
+    let n = lacking_on c.place_of.result _ _ _ _ c.in_err-i.ensures.value c.place_of.ensures in
+    refuses_list _ _ c.from_residual-in_err-i.ensures.1 (rw n.1 (held_lacking _ _ t.number (unheld t.passed.0 (rw t.passed.1 at n.0))))
 
 pub returns-then-out-c : goal.returns-then-out-c
-returns-then-out-c c = unwritten _ _ c.in_ok-graph.ensures c.in-Some.ensures.0 c.in-Some.ensures.1 c.copy_preds-c.ensures c.if-out-c.true
+returns-then-out-c c =
+    let t = c.in_ok-graph.ensures in
+    let place = found_on c.place_of.result _ _ _ _ c.in_ok-i.ensures.value c.place_of.ensures in
+    unwritten _ _ (tested_part t) place.0 (rw t.passed.1 at place.1) c.copy_preds-c.ensures c.if-out-c.true
 
 pub write_digests-requires-clause-named : goal.write_digests-requires-clause-named
-write_digests-requires-clause-named c = places_below _ _ c.in_ok-graph.ensures c.in-Some.ensures.0 c.in-Some.ensures.1 c.copy_preds-c.ensures (omega arith)
+write_digests-requires-clause-named c =
+    let t = c.in_ok-graph.ensures in
+    let place = found_on c.place_of.result _ _ _ _ c.in_ok-i.ensures.value c.place_of.ensures in
+    places_below _ _ (tested_part t) place.0 (rw t.passed.1 at place.1) c.copy_preds-c.ensures (omega arith)
 
 pub returns : goal.returns
-returns c = written _ _ c.in_ok-graph.ensures c.in-Some.ensures.0 c.in-Some.ensures.1 c.copy_preds-c.ensures (omega arith) (omega arith) c.write_digests.ensures
+returns c =
+    let t = c.in_ok-graph.ensures in
+    let place = found_on c.place_of.result _ _ _ _ c.in_ok-i.ensures.value c.place_of.ensures in
+    written _ _ (tested_part t) place.0 (rw t.passed.1 at place.1) c.copy_preds-c.ensures (omega arith) (omega arith) c.write_digests.ensures

@@ -13,19 +13,19 @@ loop-i-init c = agrees_none _ _ _
 
 pub returns-then-not-same_op : goal.returns-then-not-same_op
 returns-then-not-same_op c =
-    let looked = rw (c.count.ensures.0, c.digest_at.ensures.1) at c.look_up.ensures in
+    let looked = rw (rw (c.record.ensures.0, c.record.ensures.1) at c.digest.ensures) at c.place_of.ensures in
     let l = c.loop-i in (
       refl,
-      clash_at (graph_large c.args.s) (graph_ready c.args.o c.requires) (omega (arith, c.count-i-end.ensures.0)) (looked_at c.look_up.result _ _ _ _ looked c.in-Some.is) (says_no c.same_op.result c.same_op.ensures c.if-not-same_op.true),
+      clash_at (graph_large c.args.s) (graph_ready c.args.o c.requires) (omega (arith, c.count-i-end.ensures.0)) (looked_at c.place_of.result _ _ _ _ looked c.in-Some.is) (says_no c.same_op.result c.same_op.ensures c.if-not-same_op.true),
       (l.i, l.lacking, l.invariant),
     )
 
 pub loop-i-preserved : goal.loop-i-preserved
 loop-i-preserved c =
-    let looked = rw (c.count.ensures.0, c.digest_at.ensures.1) at c.look_up.ensures in
+    let looked = rw (rw (c.record.ensures.0, c.record.ensures.1) at c.digest.ensures) at c.place_of.ensures in
     let S = graph_large c.args.s in
     let A = c.loop-i.invariant in
-    elim c.match-look_up.branch [
-      | in-Some+else-not-same_op w ↦ rw (w.places-is, w.lacking-is) (agrees_has S (omega (arith, A.placed.size, c.requires)) A w.in-Some.p (looked_at c.look_up.result _ _ _ _ looked w.in-Some.is).0 (says_yes w.same_op.result w.same_op.ensures w.if-not-same_op.false))
-      | in-None w ↦ rw (w.places-is, w.lacking-is) (agrees_lacks S (omega (arith, A.placed.size, c.requires)) A (looked_unheld S c.look_up.result _ looked w.in-None.is))
+    elim c.match-place_of.branch [
+      | in-Some+else-not-same_op w ↦ rw (w.places-is, w.lacking-is) (agrees_has S (omega (arith, A.placed.size, c.requires)) A w.in-Some.p (looked_at c.place_of.result _ _ _ _ looked w.in-Some.is).0 (says_yes w.same_op.result w.same_op.ensures w.if-not-same_op.false))
+      | in-None w ↦ rw (w.places-is, w.lacking-is) (agrees_lacks S (omega (arith, A.placed.size, c.requires)) A (looked_unheld S c.place_of.result _ looked w.in-None.is))
     ]

@@ -33,11 +33,11 @@ pub append_from-requires-clause-s_bound : goal.append_from-requires-clause-s_bou
 append_from-requires-clause-s_bound c =
     let T = c.loop-i.invariant in
     let l : c.loop-i.i < count_of c.args.o.bytes.now = omega (arith, c.count-i-end.ensures.0) in
-    (next_room c.requires.sound (graph_ready c.args.o c.requires.room.0) c.requires.all_placed l T (says_yes _ (says_none _ _ c.is_none.ensures) c.if-is_none.true) c.requires.not_overfull, l, omega (arith, c.loop-i.auto.slots, c.requires.room.1), omega (arith, T.size, l, c.requires.room.0))
+    (next_room c.requires.sound (graph_ready c.args.o c.requires.room) c.requires.all_placed l T (says_yes _ (says_none _ _ c.is_none.ensures) c.if-is_none.true) c.requires.not_overfull, l, omega (arith, T.size, l, c.requires.room))
 
 pub loop-i-preserved : goal.loop-i-preserved
 loop-i-preserved c =
-    let O = graph_ready c.args.o c.requires.room.0 in
+    let O = graph_ready c.args.o c.requires.room in
     let l : c.loop-i.i < count_of c.args.o.bytes.now = omega (arith, c.count-i-end.ensures.0) in
     let T = c.loop-i.invariant in
     elim c.if-is_none.branch [

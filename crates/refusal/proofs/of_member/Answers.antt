@@ -1,12 +1,15 @@
 -- `refusal::of_member` meets its contract.
-use mathlib.Core.Logic.{inl, inr, ⊎_elim}
-use Rattle.rules.proofs.First.{first_here}
-use Rattle.refusal.proofs.Refusals.{tested_refused, tested_next}
+use mathlib.Core.Logic.{inl}
+use Rattle.refusal.proofs.Refusals.{tested_on, first_wider, member_second}
 use Rattle.refusal.proofs.of_member.Goals as goal
-use Rattle.refusal.proofs.of_member.Goals.{then-member-ne32-via-then-member-ne32, then-member-ne32-via-else-member-ne32+then-digest-ne32}
 
-pub returns-then-member-ne32 : goal.returns-then-member-ne32
-returns-then-member-ne32 c = tested_refused (first_here _ _ _ (elim c.then-member-ne32.branch [ then-member-ne32-via-then-member-ne32 w ↦ inl w.if-member-ne32.true | then-member-ne32-via-else-member-ne32+then-digest-ne32 w ↦ inr w.if-digest-ne32.true ]))
+pub returns-in_err-member : goal.returns-in_err-member
+returns-in_err-member c = tested_on _ c.from_residual.ensures.1 (first_wider _ _ inl _ c.in_err-member.ensures.number)
+
+pub returns-in_err-graph : goal.returns-in_err-graph
+returns-in_err-graph c = tested_on _ c.from_residual-in_err-graph.ensures.1 (member_second _ _ _ _ c.in_ok-member.ensures.number c.in_err-graph.ensures.number)
 
 pub returns : goal.returns
-returns c = tested_next (⊎_elim (λ n. n c.if-member-ne32.false) (λ n. n c.if-digest-ne32.false)) c.of_store.ensures
+returns c =
+    let p = c.in_ok-graph.ensures.passed in
+    record { number = member_second _ _ _ _ c.in_ok-member.ensures.number c.in_ok-graph.ensures.number; passed = (p.0, c.in_ok-member.ensures.passed.0, p.1) }

@@ -9,7 +9,9 @@ use Rattle.walk.proofs.lists.Goals as goal
 pub returns : goal.returns
 returns c =
     let s = c.args.graph.bytes.now in
+    let r = c.record-record.ensures in
+    let n = rw (r.0, r.1) at c.preds.ensures.0 in
     says_same c.any.result
-    (λ x. record { nth = x.0; below = rw c.preds_at.ensures.0 at x.1; there = x.2 })
-    (λ x. (x.nth, rw c.preds_at.ensures.0 x.below, x.there))
-    (says_any (λ k. pred_at s c.args.i k ≡ c.args.p) c.preds_at.result _ _ _ c.any.ensures.ran (λ x q k. search (rules, tests)) (λ x q k. search (rules, tests)))
+    (λ x. record { nth = x.0; below = rw n at x.1; there = x.2 })
+    (λ x. (x.nth, rw n x.below, x.there))
+    (says_any (λ k. pred_at s c.args.i k ≡ c.args.p) c.preds.result _ _ _ c.any.ensures.ran (λ x q k. search (rules, tests)) (λ x q k. search (rules, tests)))
