@@ -1,5 +1,7 @@
 #![tactic(auto)]
 // Fills a store to its capacities and damages it; prints what is found, a number each.
+ghost use Rattle.std.specs.Prelude.{◌<◌};
+
 use printing::{number_of, numbered};
 use rules::{Kind, Refusal};
 use std::{array, io};
@@ -55,19 +57,18 @@ fn number(answer: Result<bool, Refusal>) -> u8 {
     }
 }
 
-// Whether a store is sound.
-fn sound(s: &[u8]) -> u8 {
-    u8::from(store::sound(s, LARGE))
+// Prints whether a store is sound.
+fn sound(rt: &impl Print, label: &str, s: &[u8]) -> io::Result<()> {
+    println!(rt; "{label}: {}", u8::from(store::sound(s, LARGE)))
 }
 
-// Whether the store is sound with byte p turned over; 2 if there is no such byte.
-fn turned(s: &[u8; 50240], p: usize) -> u8 {
+// Prints whether the store is sound with byte p turned over.
+fn turned(rt: &impl Print, label: &str, s: &[u8; 50240], p: usize) -> io::Result<()>
+    requires { p < 50240 }
+{
     let mut damaged = *s;
-    let Some(byte) = damaged.get_mut(p) else {
-        return 2;
-    };
-    *byte ^= 255;
-    sound(&damaged)
+    damaged[p] ^= 255;
+    sound(rt, label, &damaged)
 }
 
 // An update that lists some digests.
@@ -104,13 +105,13 @@ fn starts(s: &mut [u8], n: u16) -> Result<bool, Refusal> {
 // 512 operations.
 fn full(rt: &impl Print, s: &mut [u8]) -> io::Result<()> {
     println!(rt; "fresh: {}", number_of(&store::make_fresh(s, LARGE)))?;
-    println!(rt; "sound: {}", sound(s))?;
+    sound(rt, "sound", s)?;
     println!(rt; "operation 513: {}", number(fill(s)))?;
     println!(rt;
         "a held digest on a full store: {}",
         number(put_add(s, &numbered(5, 0)))
     )?;
-    println!(rt; "sound: {}", sound(s))
+    sound(rt, "sound", s)
 }
 
 // 16 predecessors; the list has 17.
@@ -122,32 +123,32 @@ fn slots(rt: &impl Print, s: &mut [u8], list: &[[u8; 32]; 17]) -> io::Result<()>
     println!(rt; "17 predecessors: {}", number(wide))?;
     let fits = put_update(s, &digest, list[..16].as_flattened());
     println!(rt; "16 predecessors: {}", number(fits))?;
-    println!(rt; "sound: {}", sound(s))
+    sound(rt, "sound", s)
 }
 
 // A byte turned over, of digests, members and kinds.
 fn damages(rt: &impl Print, s: &[u8; 50240]) -> io::Result<()> {
-    println!(rt; "an add's member: {}", turned(s, 96))?;
-    println!(rt; "a digest that nothing lists: {}", turned(s, UPDATE))?;
-    println!(rt; "a digest that is listed: {}", turned(s, 64))?;
-    println!(rt; "an update's member: {}", turned(s, UPDATE + 32))?;
-    println!(rt; "a kind: {}", turned(s, 128))
+    turned(rt, "an add's member", s, 96)?;
+    turned(rt, "a digest that nothing lists", s, UPDATE)?;
+    turned(rt, "a digest that is listed", s, 64)?;
+    turned(rt, "an update's member", s, UPDATE + 32)?;
+    turned(rt, "a kind", s, 128)
 }
 
 // A byte turned over, of the slots and of what no record has.
 fn more_damages(rt: &impl Print, s: &[u8; 50240]) -> io::Result<()> {
-    println!(rt; "a number of predecessors: {}", turned(s, UPDATE + 65))?;
-    println!(rt; "a predecessor's place: {}", turned(s, UPDATE + 66))?;
-    println!(rt; "a free slot: {}", turned(s, 130))?;
-    println!(rt; "a byte after the last record: {}", turned(s, UPDATE + 98))?;
-    println!(rt; "the last byte: {}", turned(s, 50239))
+    turned(rt, "a number of predecessors", s, UPDATE + 65)?;
+    turned(rt, "a predecessor's place", s, UPDATE + 66)?;
+    turned(rt, "a free slot", s, 130)?;
+    turned(rt, "a byte after the last record", s, UPDATE + 98)?;
+    turned(rt, "the last byte", s, 50239)
 }
 
 // A byte turned over, of the store's first bytes; then none.
 fn first_bytes(rt: &impl Print, s: &[u8; 50240]) -> io::Result<()> {
-    println!(rt; "a reserved byte: {}", turned(s, 2))?;
-    println!(rt; "the count: {}", turned(s, 0))?;
-    println!(rt; "none: {}", sound(s))
+    turned(rt, "a reserved byte", s, 2)?;
+    turned(rt, "the count", s, 0)?;
+    sound(rt, "none", s)
 }
 
 fn main(rt: HostRuntime) -> io::Result<()> {

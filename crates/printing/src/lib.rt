@@ -33,9 +33,9 @@ pub fn number_of<T>(answer: &Result<T, Refusal>) -> u8
     }
 }
 
-// Whether all bytes from a place on are 170.
-pub fn untouched(out: &[u8], from: usize) -> bool {
-    out.iter().skip(from).all(|x| *x == 170)
+// Whether all bytes are 170.
+pub fn untouched(out: &[u8]) -> bool {
+    out.iter().all(|x| *x == 170)
 }
 
 // Prints a label, the number of an answer that lists digests, the value of each of them, and whether the bytes past them are untouched.
@@ -56,7 +56,7 @@ pub fn listed(
     }
     println!(rt;
         "{}",
-        if untouched(out, 32 * count) {
+        if untouched(&out[32 * count..]) {
             ""
         } else {
             " rest changed"

@@ -1,6 +1,6 @@
 #![tactic(auto)]
 // Runs every refusal of every public call; prints the numbers, the counts, and whether the lent bytes are untouched.
-use cgka_graph::Kind::{Add, Update};
+use cgka_graph::Kind::{Add, Remove, Update};
 use cgka_graph::{Refusal, operation, predecessors};
 use printing::{digest, number_of, untouched};
 use samples::{Step, Store, put};
@@ -20,7 +20,7 @@ fn answered(
         "{label}: {} {} untouched {}",
         number_of(&answer),
         answer.unwrap_or(0),
-        u8::from(untouched(out, 0))
+        u8::from(untouched(out))
     )
 }
 
@@ -38,7 +38,7 @@ struct Operation<'a> {
 fn add(t: &Table) -> Operation<'_> {
     Operation {
         digest: &t[9],
-        kind: 0,
+        kind: Add.into(),
         member: &t[0],
         list: &[],
     }
@@ -69,7 +69,7 @@ fn offer(
 fn misshapen(rt: &impl Print, s: &mut Store, t: &Table, out: &mut [u8]) -> io::Result<()> {
     let add = add(t);
     let remove = Operation {
-        kind: 1,
+        kind: Remove.into(),
         list: &t[1],
         ..add
     };
@@ -99,7 +99,7 @@ fn misshapen(rt: &impl Print, s: &mut Store, t: &Table, out: &mut [u8]) -> io::R
 // Offers that are known or refused otherwise.
 fn unfit(rt: &impl Print, s: &mut Store, t: &Table, out: &mut [u8]) -> io::Result<()> {
     let remove = Operation {
-        kind: 1,
+        kind: Remove.into(),
         list: &[1; 544],
         ..add(t)
     };
@@ -109,7 +109,7 @@ fn unfit(rt: &impl Print, s: &mut Store, t: &Table, out: &mut [u8]) -> io::Resul
         ..remove
     };
     let rootless = Operation {
-        kind: 2,
+        kind: Update.into(),
         list: &[],
         ..remove
     };
@@ -122,7 +122,7 @@ fn unfit(rt: &impl Print, s: &mut Store, t: &Table, out: &mut [u8]) -> io::Resul
         ..remove
     };
     let update = Operation {
-        kind: 2,
+        kind: Update.into(),
         list: &t[3],
         ..remove
     };

@@ -16,6 +16,7 @@ use printing::digest;
 pub type Store = [u8; 50240];
 
 // An operation with the member 0: its digest's number, its kind, its list.
+#[derive(Clone, Copy)]
 pub struct Step(pub u8, pub Kind, pub &'static str);
 
 // A graph: what is printed above it, and the operations in order of admission.
@@ -81,19 +82,14 @@ pub fn fresh(store: &mut Store)
 }
 
 // Offers the operation of a step. Of its digits the first 17 are listed, one more than admission takes.
-pub fn offer(
-    store: &mut Store,
-    n: u8,
-    kind: Kind,
-    digits: &str,
-    out: &mut [u8],
-) -> Result<Option<usize>, Refusal>
-    ensures { AddsOp store.old (replicate 32 n) (kind_code kind) (replicate 32 0) (spelled digits.now 544) out.old store.new out.new (number_of result) (known_of result) (passed_of result) }
+pub fn offer(store: &mut Store, step: &Step, out: &mut [u8]) -> Result<Option<usize>, Refusal>
+    ensures { AddsOp store.old (replicate 32 step.now.0) (kind_code step.now.1) (replicate 32 0) (spelled step.now.2.now 544) out.old store.new out.new (number_of result) (known_of result) (passed_of result) }
 {
+    let Step(n, kind, digits) = step;
     let mut list = [0u8; 544];
     let len = expand(digits.as_bytes(), &mut list);
     let list = &list[..len];
-    operation::add_op(store, &digest(n), kind.into(), &digest(0), list, out)
+    operation::add_op(store, &digest(*n), (*kind).into(), &digest(0), list, out)
 }
 
 // Offers an operation whose member is 32 bytes of one value; which updates it makes chainable isn't looked at.
@@ -116,8 +112,8 @@ pub fn build(store: &mut Store, steps: &[Step])
     ensures { Builds steps.now store.new }
 {
     fresh(store);
-    for Step(n, kind, digits) in steps {
+    for step in steps {
         let mut out = [0u8; 512];
-        let _ = offer(store, *n, *kind, digits, &mut out);
+        let _ = offer(store, step, &mut out);
     }
 }

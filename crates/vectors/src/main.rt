@@ -30,10 +30,14 @@ const UPDATES: Sample = Sample {
 };
 
 // Admits an operation and prints the answer.
-fn add(rt: &impl Print, s: &mut Store, n: u8, kind: Kind, digits: &str) -> io::Result<()> {
+fn add(rt: &impl Print, s: &mut Store, step: &Step) -> io::Result<()> {
     let mut out = [170u8; 512];
-    let answer = offer(s, n, kind, digits, &mut out);
-    print!(rt; "add {n}: known {}", u8::from(matches!(answer, Ok(None))))?;
+    let answer = offer(s, step, &mut out);
+    print!(rt;
+        "add {}: known {}",
+        step.0,
+        u8::from(matches!(answer, Ok(None)))
+    )?;
     listed(rt, "", answer.map(|count| count.unwrap_or(0)), &out)
 }
 
@@ -84,8 +88,8 @@ fn all_about(rt: &impl Print, s: &[u8], n: u8) -> io::Result<()> {
 fn answers(rt: &impl Print, s: &mut Store, sample: &Sample) -> io::Result<()> {
     println!(rt; "{}", sample.label)?;
     fresh(s);
-    for Step(n, kind, digits) in sample.steps {
-        add(rt, s, *n, *kind, digits)?;
+    for step in sample.steps {
+        add(rt, s, step)?;
     }
     Ok(())
 }
@@ -141,7 +145,7 @@ fn on_full_new(rt: &impl Print, s: &mut Store) -> io::Result<()> {
         number_of(&answer),
         answer.map_or(0, |count| count.unwrap_or(0)),
         u8::from(*s == before),
-        u8::from(untouched(&out, 0))
+        u8::from(untouched(&out))
     )
 }
 
@@ -176,8 +180,8 @@ fn widest(rt: &impl Print, s: &mut Store) -> io::Result<()> {
     for i in 1..17 {
         let _ = put(s, &digest(i), Add, 0, &[]);
     }
-    add(rt, s, 50, Update, "12345678912345678")?;
-    add(rt, s, 50, Update, "1234567891234567")
+    add(rt, s, &Step(50, Update, "12345678912345678"))?;
+    add(rt, s, &Step(50, Update, "1234567891234567"))
 }
 
 fn main(rt: HostRuntime) -> io::Result<()> {

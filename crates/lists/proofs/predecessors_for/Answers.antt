@@ -58,17 +58,14 @@ returns-in_err-i c =
 pub returns-then-out-c : goal.returns-then-out-c
 returns-then-out-c c =
     let t = c.in_ok-graph.ensures in
-    let place = found_on c.place_of.result _ _ _ _ c.in_ok-i.ensures.value c.place_of.ensures in
-    unwritten _ _ (tested_part t) place.0 (rw t.passed.1 at place.1) c.copy_preds-c.ensures c.if-out-c.true
+    let place = found_on c.place_of.result _ _ _ _ c.in_ok-i.ensures.value c.place_of.ensures in unwritten _ _ (tested_part t) place.0 (rw t.passed.1 at place.1) c.copy_preds-c.ensures c.if-out-c.true
 
 pub write_digests-requires-clause-named : goal.write_digests-requires-clause-named
 write_digests-requires-clause-named c =
     let t = c.in_ok-graph.ensures in
-    let place = found_on c.place_of.result _ _ _ _ c.in_ok-i.ensures.value c.place_of.ensures in
-    places_below _ _ (tested_part t) place.0 (rw t.passed.1 at place.1) c.copy_preds-c.ensures (omega arith)
+    let place = found_on c.place_of.result _ _ _ _ c.in_ok-i.ensures.value c.place_of.ensures in places_below _ _ (tested_part t) place.0 (rw t.passed.1 at place.1) c.copy_preds-c.ensures (omega arith)
 
 pub returns : goal.returns
 returns c =
     let t = c.in_ok-graph.ensures in
-    let place = found_on c.place_of.result _ _ _ _ c.in_ok-i.ensures.value c.place_of.ensures in
-    written _ _ (tested_part t) place.0 (rw t.passed.1 at place.1) c.copy_preds-c.ensures (omega arith) (omega arith) c.write_digests.ensures
+    let place = found_on c.place_of.result _ _ _ _ c.in_ok-i.ensures.value c.place_of.ensures in written _ _ (tested_part t) place.0 (rw t.passed.1 at place.1) c.copy_preds-c.ensures (omega arith) (omega arith) c.write_digests.ensures

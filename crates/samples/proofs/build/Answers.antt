@@ -7,11 +7,11 @@ use Rattle.samples.specs.Steps.{fresh}
 use Rattle.samples.proofs.Building.{builds_more}
 use Rattle.samples.proofs.build.Goals as goal
 
-pub loop-n-init : goal.loop-n-init
-loop-n-init c = fresh c.fresh.ensures
+pub loop-step-init : goal.loop-step-init
+loop-step-init c = fresh c.fresh.ensures
 
-pub loop-n-preserved : goal.loop-n-preserved
-loop-n-preserved c = builds_more c.args.steps.now c.loop-n.n-index _ (omega arith) c.loop-n.invariant (record {
+pub loop-step-preserved : goal.loop-step-preserved
+loop-step-preserved c = builds_more c.args.steps.now c.loop-step.step-index _ (omega arith) c.loop-step.invariant (record {
   number = number_of c.offer.result;
   known = known_of c.offer.result;
   count = passed_of c.offer.result;

@@ -3,5 +3,5 @@ use Rattle.std.proofs.Common.{take}
 use Rattle.samples.specs.Steps.{Builds}
 use Rattle.samples.proofs.build.Given as goal
 
-abbrev pub invariant-loop-n : goal.invariant-loop-n
-invariant-loop-n l = Builds (take l.n-index l.steps) l.store
+abbrev pub invariant-loop-step : goal.invariant-loop-step
+invariant-loop-step l = Builds (take l.step-index l.steps) l.store
