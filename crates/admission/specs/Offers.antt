@@ -7,6 +7,7 @@ use Rattle.rules.specs.Bytes.{digest_of, digests_of}
 use Rattle.rules.specs.First.{First}
 use Rattle.rules.specs.Graph.{Held, Unheld}
 use Rattle.rules.specs.Lists.{◌∈◌, SetOf}
+use Rattle.rules.specs.Numbers.{kind_code}
 use Rattle.rules.specs.Table.{limits, Shaped, Over}
 use Rattle.rules.specs.declared.Refusal.{Refusal}
 use Rattle.store.specs.Layout.{count_of, ops_of}
@@ -14,13 +15,8 @@ use Rattle.store.specs.Slots.{Gathering}
 use Rattle.store.specs.Sound.{Sound}
 use Rattle.refusal.specs.Damage.{Damaged}
 use Rattle.admission.specs.Marks.{Worked}
-use Rattle.rules.specs.Numbers.{kind_code}
 use Rattle.admission.specs.declared.offer.Offer.{Offer}
 use Rattle.admission.specs.declared.tried.Tried.{Tried}
-
--- the refusals that come first: the arguments and the store
-abbrev pub input_refusals : List ℕ → List ℕ → ℕ → List ℕ → List ℕ → List (ℕ × Type 0)
-input_refusals s d k m l = (1, ¬ Shaped d k m l) ∷ (2, Over limits.predecessors l) ∷ (3, Damaged s) ∷ []
 
 -- o is the offer that the bytes d and m, the kind k and the list l are
 pub record Parsed (d : List ℕ) (k : ℕ) (m l : List ℕ) (o : Offer) : Type 0 where
@@ -28,6 +24,10 @@ pub record Parsed (d : List ℕ) (k : ℕ) (m l : List ℕ) (o : Offer) : Type 0
   pub kind : kind_code o.kind ≡ k
   pub member : o.member.now ≡ m
   pub predecessors : o.predecessors.now ≡ l
+
+-- the refusals that come first: the arguments and the store
+abbrev pub input_refusals : List ℕ → List ℕ → ℕ → List ℕ → List ℕ → List (ℕ × Type 0)
+input_refusals s d k m l = (1, ¬ Shaped d k m l) ∷ (2, Over limits.predecessors l) ∷ (3, Damaged s) ∷ []
 
 -- those of a new operation
 abbrev pub new_refusals : List ℕ → ℕ → List ℕ → List (ℕ × Type 0)

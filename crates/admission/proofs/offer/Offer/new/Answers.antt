@@ -4,11 +4,11 @@ use native.Mathlib.Omega.{arith}
 use mathlib.Core.Path.{◌≡◌, refl}
 use mathlib.Core.List.{List}
 use lib.ListN.{length}
-use Rattle.rules.specs.Numbers.{kind_code}
 use Rattle.rules.specs.Bytes.{digest_of}
+use Rattle.rules.specs.Numbers.{kind_code}
 use Rattle.rules.specs.Table.{OneDigest, Shaped}
 use Rattle.rules.specs.declared.Kind.{Kind}
-use Rattle.rules.proofs.Answers.{says_yes, first_none}
+use Rattle.rules.proofs.Answers.{says_yes}
 use Rattle.rules.proofs.Bytes.{fit_bytes}
 use Rattle.rules.proofs.First.{first_done, first_here, first_next}
 use Rattle.refusal.proofs.Refusals.{tested_refused, tested_next, tested_on, first_wider}
