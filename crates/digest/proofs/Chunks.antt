@@ -9,13 +9,15 @@ use mathlib.Core.List.{List}
 use lib.ListN.{length, get_or, take, drop}
 use Rattle.std.specs.Bool.{Decides}
 use Rattle.std.specs.List.{Contains, IsAnyAnswer}
+use Rattle.std.specs.Int.{from_be_bytes}
 use Rattle.std.specs.Simd.{first_chunks}
 use Rattle.std.specs.Str.{bytes_eq}
+use Rattle.std.proofs.Common.{w64}
 use Rattle.std.proofs.lemmas.Bool.Decides.{Decides-like}
 use Rattle.std.proofs.lemmas.List.{drop-drop, get_or-drop, get_or-take, length-drop, length-take, length-take-le}
 use Rattle.std.proofs.lemmas.List.Elements.{contains_decides, Decides-contains}
 use Rattle.std.proofs.lemmas.Slice.Eq.{bytes_eq-Decides}
-use Rattle.rules.specs.Bytes.{Bytes, digest_of, digests_of}
+use Rattle.rules.specs.Bytes.{Bytes, number_at, digest_of, digests_of}
 use Rattle.rules.specs.Lists.{◌∈◌}
 use Rattle.rules.proofs.Answers.{digest_unique}
 use Rattle.rules.proofs.Bytes.{row_in, in_row, digest_part, small_take}
@@ -28,6 +30,11 @@ chunk_at n (suc k) xs zero d h = rw mul-zero refl
 chunk_at n (suc k) xs (suc i) d h =
     let e : n + n * i ≡ n * suc i = omega (arith, mul-suc n i) in
     chunk_at n k (drop n xs) i d (omega arith) ∙ rw drop-drop (ap (λ j. take n (drop j xs)) e)
+
+-- what 8 bytes spell is their number
+pub spelled : (b : List ℕ) → from_be_bytes w64 b ≡ number_at b 0 8
+unfolding number_at
+spelled b = omega arith
 
 -- the digests of s are those that its arrays cs are
 module _ (s : List ℕ) {cs : List (List ℕ)} (cut : cs ≡ first_chunks 32 (length s / 32) s) (many : length cs ≡ length s / 32) where

@@ -1,4 +1,5 @@
 pub mod Writing
 pub mod Orders
 pub mod Chunks
+pub mod Sinking
 pub mod Listing

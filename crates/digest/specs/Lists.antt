@@ -1,6 +1,9 @@
 -- The cursor over a list of digests, and the digests of a list by their places.
 -- Assumes nothing.
 use Rattle.std.specs.Prelude.{ℕ, Option, Some, None, ◌+◌, ◌*◌, ◌<◌, ◌≡◌, List, leb}
+use Rattle.std.specs.Cmp.Lexicographic.{slice_cmp}
+use Rattle.std.specs.List.Sorted.{IsSortedWithin}
+use Rattle.std.specs.Ordering.{nat_cmp, is_lt}
 use Rattle.rules.specs.Bytes.{number_at}
 use Rattle.rules.specs.Log.{choose}
 use Rattle.digest.specs.declared.Cursor.{Cursor}
@@ -18,3 +21,7 @@ pub record Among (s : List ℕ) (n x : ℕ) : Type 0 where
   pub place : ℕ
   pub within : place < n
   pub there : nth s place ≡ x
+
+-- the first n of a list of arrays ascend
+abbrev pub Ascends : List (List ℕ) → ℕ → Type 0
+Ascends xs n = IsSortedWithin (λ x y. is_lt (slice_cmp nat_cmp x y)) xs 0 n

@@ -4,7 +4,7 @@ use Prim.Native.Nat.{ℕ, zero, suc, ◌+◌, ◌*◌, ◌^◌, ◌≤◌, ◌<�
 use native.Mathlib.Omega.{arith}
 use native.Mathlib.Decide.{ℕ_discrete, dec_lt}
 use native.Mathlib.Numerals.{add-one}
-use native.Mathlib.Nat.{pow-suc, add-zero}
+use native.Mathlib.Nat.{pow-suc, add-zero, zero-add}
 use mathlib.Core.Path.{◌≡◌, refl, sym, ◌∙◌, ap, subst}
 use mathlib.Core.List.{List, [], ◌∷◌, ◌++◌}
 use lib.ListN.{length, get_or, take, drop, length-append, get_or-append}
@@ -119,6 +119,14 @@ number_append s p k (suc j) =
     let e : k + suc j ≡ suc (k + j) = omega arith in
     let f : p + (k + j) ≡ p + k + j = omega arith in
     rw (e, pow-suc) (omega (arith, number_append s p k j, ap (λ x. get_or s x 0) f))
+
+-- the first k bytes and then j more
+pub number_more : (s : List ℕ) (k j : ℕ) → number_at s 0 (k + j) ≡ number_at s 0 k * 256 ^ j + number_at s k j
+number_more s k j = let e : 0 + k ≡ k = zero-add k in rw e at (number_append s 0 k j)
+
+-- a number in a part of a list is the one that stands there
+pub number_part : (s : List ℕ) (a m k : ℕ) → k ≤ m → number_at (take m (drop a s)) 0 k ≡ number_at s a k
+number_part s a m k h = number_same (take m (drop a s)) s 0 a k (λ j l. get_or-take m (drop a s) (0 + j) 0 (omega arith) ∙ get_or-drop a s (0 + j) 0 ∙ ap (λ x. get_or s x 0) (omega arith))
 
 -- the first digest of a part of a list is the one that stands there
 pub digest_take : (s : List ℕ) (m : ℕ) → 32 ≤ m → digest_of (take m s) ≡ digest_of s

@@ -9,8 +9,9 @@ use lib.ListN.{length}
 use Rattle.rules.specs.Admission.{Grown}
 use Rattle.rules.specs.Bytes.{Bytes, row}
 use Rattle.rules.specs.Graph.{Proper}
+use Rattle.rules.specs.Lists.{◌∈◌}
 use Rattle.rules.specs.Table.{Limits}
-use Rattle.rules.proofs.Bytes.{row_length, row_at, number_below}
+use Rattle.rules.proofs.Bytes.{row_length, row_at, in_row, number_below}
 use Rattle.rules.proofs.Formed.{no_op, op_at, Formed}
 use Rattle.rules.proofs.Growth.{grown_formed}
 use Rattle.rules.proofs.Lists.{ordered_at, at_ordered, rising}
@@ -30,7 +31,13 @@ pub no_preds : (s : List ℕ) (i : ℕ) → preds_at s i ≡ 0 → (op_of s i).p
 unfolding row
 no_preds s i e = ap (λ c. row c (λ k. digest_at s (pred_at s i k))) e
 
+some_preds : (s : List ℕ) (i : ℕ) → 0 < preds_at s i → (op_of s i).preds ≡ [] → ⊥
+some_preds s i h e = omega (arith, ap length e, row_length (preds_at s i) (λ k. digest_at s (pred_at s i k)))
+
 module _ {L : Limits} {s : List ℕ} (C : Checked L s) where
+  pub checked_laid : Laid L s
+  checked_laid = record { frame = C.frame; slots = λ i h. (C.good i h).slots }
+
   pub checked_distinct : (i j : ℕ) → i < count_of s → j < count_of s → digest_at s i ≡ digest_at s j → i ≡ j
   checked_distinct i j h k e = go (dec_lt i j) (dec_lt j i)
     where
@@ -53,6 +60,28 @@ module _ {L : Limits} {s : List ℕ} (C : Checked L s) where
             let l : y < preds_at s i = omega (arith, row_length (preds_at s i) f) in
             rw (row_at 0 (preds_at s i) f x (omega arith), row_at 0 (preds_at s i) f y l) (rising f (preds_at s i) G.rising x y p l));
       }
+
+  pub checked_formed : Formed (ops_of s)
+  checked_formed =
+      record {
+        distinct = λ i j h k e.
+            let h' : i < count_of s = omega (arith, ops_length s) in
+            let k' : j < count_of s = omega (arith, ops_length s) in
+            checked_distinct i j h' k' (ap (λ o. o.digest) (sym (ops_at s i h')) ∙ e ∙ ap (λ o. o.digest) (ops_at s j k'));
+        earlier = λ i p h m.
+            let h' : i < count_of s = omega (arith, ops_length s) in
+            let r = in_row 0 (preds_at s i) (λ k. digest_at s (pred_at s i k)) p (subst (λ o. p ∈ o.preds) (ops_at s i h') m) in
+            let l : pred_at s i r.0 < i = (C.good i h').slots.early r.0 r.1 in
+            (pred_at s i r.0, l, ap (λ o. o.digest) (ops_at s (pred_at s i r.0) (omega arith)) ∙ r.2);
+        rooted = λ i h e.
+            let h' : i < count_of s = omega (arith, ops_length s) in
+            ap (λ o. o.kind) (ops_at s i h') ∙ root i h' (ap (λ o. o.preds) (sym (ops_at s i h')) ∙ e) (ℕ_discrete (kind_at s i) 0);
+        proper = λ i h. let h' : i < count_of s = omega (arith, ops_length s) in subst Proper (sym (ops_at s i h')) (checked_proper i h');
+      }
+    where
+      root : (i : ℕ) → i < count_of s → (op_of s i).preds ≡ [] → Dec (kind_at s i ≡ 0) → kind_at s i ≡ 0
+      root i h e (yes k) = k
+      root i h e (no n) = absurd (some_preds s i ((C.good i h).kinded.rooted n) e)
 
 pub blank_ops : {n : ℕ} {s : List ℕ} → Blank n s → ops_of s ≡ []
 unfolding ops_of row

@@ -47,11 +47,15 @@ impl<'a> Graph<'a> {
         Record::new(self.bytes, i)
     }
 
-    // What operation i does.
+    // What operation i does. The byte is 0, 1 or 2 in a sound store, so that no error is looked for: passes ask this of each operation.
     pub fn kind(self, i: usize) -> Kind
         requires { i < count_of self.bytes.now }
         ensures { kind_code result ≡ kind_at self.entry.bytes.now i }
     {
-        Kind::try_from(self.record(i).kind()).unwrap()
+        match self.record(i).kind() {
+            0 => Kind::Add,
+            1 => Kind::Remove,
+            _ => Kind::Update,
+        }
     }
 }

@@ -9,8 +9,8 @@ use mathlib.Core.List.{List}
 use lib.ListN.{length, get_or, set, length-set}
 use lib.Seq.{get_or-set_same, get_or-set_other}
 use Rattle.store.specs.Layout.{count_of, preds_at, pred_at}
-use Rattle.rules.specs.Table.{limits}
-use Rattle.store.specs.Sound.{Sound, Laid}
+use Rattle.rules.specs.Table.{Limits, limits}
+use Rattle.store.specs.Sound.{Roomy, Sound, Laid}
 use Rattle.rules.specs.Batches.{Mark}
 use Rattle.store.specs.Capacities.{limits_of}
 use Rattle.store.specs.declared.graph.Graph.{Graph}
@@ -56,8 +56,11 @@ pub graph_large : (g : Graph) → Ready g.bytes.now 512
 graph_large g = graph_ready g (omega (arith, g.checked.frame.few, g.capacity.roomy.0))
 
 -- a sound store is ready for as many marks as it may hold operations
+pub sound_ready : {L : Limits} {s : List ℕ} → Roomy L → Sound L s → Ready s L.operations
+sound_ready {L} r S = record { limits = L; roomy = r; sound = S; enough = (sound_laid S).frame.few }
+
 pub large_ready : {s : List ℕ} → Sound limits s → Ready s 512
-large_ready S = record { limits = limits; roomy = record { operations = omega arith; predecessors = omega arith }; sound = S; enough = (sound_laid S).frame.few }
+large_ready S = sound_ready (record { operations = omega arith; predecessors = omega arith }) S
 
 -- what a ready store has
 module _ {s : List ℕ} {r : ℕ} (R : Ready s r) where

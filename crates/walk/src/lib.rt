@@ -161,11 +161,12 @@ fn depth_at(graph: Graph, i: usize, depths: &[u16]) -> u16
     ensures { (result ≤ i) × Deepest graph.entry.bytes.now i depths.now (preds_at graph.entry.bytes.now i) result }
 {
     let record = graph.record(i);
-    let mut deep: u16 = 0;
+    let mut deep: usize = 0;
     for k in 0..record.preds() {
-        deep = deep.max(depths[record.pred(k)] + 1);
+        deep = deep.max(usize::from(depths[record.pred(k)]) + 1);
     }
-    deep
+    // At most i, which fits two bytes.
+    deep as u16
 }
 
 // Writes the depth of each operation.

@@ -9,4 +9,4 @@ loop-k-preserved c =
     let e = rw (r.0, r.1) at c.pred.ensures.0 in
     let n = rw (r.0, r.1) at c.preds-k-end.ensures.0 in
     let early = ready_early (graph_ready c.args.graph c.requires.room) c.args.i c.requires.i_bound c.loop-k.k (omega (arith, n)) in
-    (omega (arith, e, early, c.requires.by_index _ early, c.max-deep.ensures), rw (c.max-deep.ensures, e) (deepest_max _ _ _ c.loop-k.k c.loop-k.deep c.loop-k.invariant.1))
+    (omega (arith, e, early, c.requires.by_index _ early, c.max-deep.ensures), rw (c.max-deep.ensures, c.from.ensures, e) (deepest_max _ _ _ c.loop-k.k c.loop-k.deep c.loop-k.invariant.1))
