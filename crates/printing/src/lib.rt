@@ -48,11 +48,11 @@ pub fn listed(
     print!(rt; "{label} {} listed", number_of(&answer))?;
     let (digests, _) = out.as_chunks::<32>();
     let count = answer.unwrap_or(0);
-    let Some(digests) = digests.get(..count) else {
-        return println!(rt; " too many");
-    };
-    for digest in digests {
+    for digest in digests.iter().take(count) {
         print!(rt; " {}", digest[0])?;
+    }
+    if digests.len() < count {
+        return println!(rt; " too many");
     }
     println!(rt;
         "{}",
